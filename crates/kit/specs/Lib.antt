@@ -1,0 +1,4 @@
+pub mod Decimal
+pub mod Layout
+pub mod Loops
+pub mod Put
