@@ -2,7 +2,7 @@
 ghost use mathlib.Core.Path.{_≡_};
 ghost use Prim.Native.Nat.{_≤_};
 ghost use Rattle.handle.specs.Handle.{maxId, pack, idOf, dirOf, flip, isHandle, sameHandle, before};
-ghost use Rattle.handle.specs.Edge.{edge, turned, bothForward, written, sameEnds, edgeBefore};
+ghost use Rattle.handle.specs.Edge.{edge, turned, bothForward, written, sameEnds, sameLink, edgeBefore};
 
 pub struct Handle {
     pub packed: u64,
@@ -130,6 +130,17 @@ impl Edge {
         let u = self.from;
         let v = self.to;
         u.same(other.from) && v.same(other.to)
+    }
+
+    // Whether the two are one link, in either form.
+    pub fn same_link(self, other: Edge) -> bool
+        ensures { λ r. ⌜ r ≡ sameLink self other ⌝ }
+    {
+        if self.same(other) {
+            return true;
+        }
+        let t = self.turned();
+        t.same(other)
     }
 
     pub fn before(self, other: Edge) -> bool

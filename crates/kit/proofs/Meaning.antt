@@ -1,16 +1,17 @@
 -- What the plain loops' answers say, element by element; and how they go over lists that are put together.
 -- `List·Memᴰ a rs` is mathlib's: a stands in rs.
-use Prim.Native.Nat.{ℕ, zero, suc, _+_, _<_}
+use Prim.Native.Nat.{ℕ, zero, suc, _+_, _-_, _<_}
 use mathlib.Core.Path.{_≡_, refl, sym, ap, _∙_}
 use mathlib.Core.Bool.{Bool, true, false, cond, not, _&&_, _||_, and-assoc, or-assoc}
 use mathlib.Core.List.{List, [], _∷_, _++_, map, List·Memᴰ, List·Memᴰ·head, List·Memᴰ·tail, append-assoc}
 use native.Mathlib.Nat.{le-of-suc-le-suc, not-suc-le-zero}
 use native.Mathlib.Omega.{arith}
+use borrow.Author.Tests.{not-true}
 use lib.ListN.{length, take, drop, getD}
 use Rattle.kit.specs.declared.Found.the-variants.{At, Nothing}
-use Rattle.kit.specs.Loops.{findFrom, all, any, distinct, sum, keep, lines}
+use Rattle.kit.specs.Loops.{findFrom, firstOr, all, any, distinct, sum, keep, lines}
 use Rattle.kit.proofs.Bools.{never, and-true-l, and-true-r, and-both, or-left, or-right, or-neither, not-true-false}
-use Rattle.kit.proofs.Steps.{none-passes}
+use Rattle.kit.proofs.Steps.{found-at, none-passes}
 
 module _ {A : Type 0} where
   -- an element stands at a place, and a place has an element
@@ -71,6 +72,28 @@ module _ {A : Type 0} (p : A → Bool) where
       let r = at-mem m in
       ap p (sym (r .2 a)) ∙ none-passes p i rs e (r .0) (r .1) a)
 
+  -- the first that passes is the one that a search finds
+  pub first-found : (d : A) (i k : ℕ) (rs : List A) → findFrom p i rs ≡ At k → (e : A) → firstOr d p rs ≡ getD rs (k - i) e
+  first-found d i k [] q e = let z : _≡_ {A = ℕ} 0 1 = cc in absurd (omega arith)
+  first-found d i k (a ∷ rs) q e = by (p a) refl q (λ r. first-found d (i + 1) k rs r e)
+    where
+      by : (b : Bool) → p a ≡ b → cond b (At i) (findFrom p (i + 1) rs) ≡ At k → (findFrom p (i + 1) rs ≡ At k → firstOr d p rs ≡ getD rs (k - (i + 1)) e) → cond b a (firstOr d p rs) ≡ getD (a ∷ rs) (k - i) e
+      by true t r go =
+          let s : i ≡ k = cc in
+          let z : k - i ≡ 0 = omega arith in
+          rw z
+      by false t r go =
+          let z : k - i ≡ suc (k - (i + 1)) = omega (arith, found-at p (i + 1) k rs r .low) in
+          rw z (go r)
+
+  pub first-none : (d : A) (i : ℕ) (rs : List A) → findFrom p i rs ≡ Nothing → firstOr d p rs ≡ d
+  first-none d i [] q = refl
+  first-none d i (a ∷ rs) q = by (p a) q (first-none d (i + 1) rs)
+    where
+      by : (b : Bool) → cond b (At i) (findFrom p (i + 1) rs) ≡ Nothing → (findFrom p (i + 1) rs ≡ Nothing → firstOr d p rs ≡ d) → cond b a (firstOr d p rs) ≡ d
+      by true r go = let z : _≡_ {A = ℕ} 0 1 = cc in absurd (omega arith)
+      by false r go = go r
+
   -- of two lists in a row
   pub all-append : (rs ts : List A) → all p (rs ++ ts) ≡ (all p rs && all p ts)
   all-append [] ts = refl
@@ -102,17 +125,18 @@ module _ {A : Type 0} (p : A → Bool) where
   all-drop (suc n) (a ∷ rs) t = all-drop n rs (and-true-r (p a) (all p rs) t)
 
 -- no element is the same as a later one
-pub distinct-at : {A : Type 0} (same : A → A → Bool) (rs : List A) → distinct same rs ≡ true → (i j : ℕ) → i < j → j < length rs → (d : A) → same (getD rs i d) (getD rs j d) ≡ false
-distinct-at same [] t i j h k d = absurd (not-suc-le-zero k)
-distinct-at same (a ∷ rs) t i zero h k d = absurd (not-suc-le-zero h)
-distinct-at same (a ∷ rs) t zero (suc j) h k d =
-    none-mem (same a) (no (any (same a) rs) (and-true-l (not (any (same a) rs)) (distinct same rs) t)) (mem-at rs j d (le-of-suc-le-suc k))
-  where
-    no : (b : Bool) → not b ≡ true → b ≡ false
-    no true e = sym e
-    no false e = refl
-distinct-at same (a ∷ rs) t (suc i) (suc j) h k d =
-    distinct-at same rs (and-true-r (not (any (same a) rs)) (distinct same rs) t) i j (le-of-suc-le-suc h) (le-of-suc-le-suc k) d
+module _ {A : Type 0} (same : A → A → Bool) where
+  pub distinct-first : (a : A) (rs : List A) → distinct same (a ∷ rs) ≡ true → any (same a) rs ≡ false
+  distinct-first a rs t = not-true (any (same a) rs) (and-true-l (not (any (same a) rs)) (distinct same rs) t)
+
+  pub distinct-rest : (a : A) (rs : List A) → distinct same (a ∷ rs) ≡ true → distinct same rs ≡ true
+  distinct-rest a rs t = and-true-r (not (any (same a) rs)) (distinct same rs) t
+
+  pub distinct-at : (rs : List A) → distinct same rs ≡ true → (i j : ℕ) → i < j → j < length rs → (d : A) → same (getD rs i d) (getD rs j d) ≡ false
+  distinct-at [] t i j h k d = absurd (not-suc-le-zero k)
+  distinct-at (a ∷ rs) t i zero h k d = absurd (not-suc-le-zero h)
+  distinct-at (a ∷ rs) t zero (suc j) h k d = none-mem (same a) (distinct-first a rs t) (mem-at rs j d (le-of-suc-le-suc k))
+  distinct-at (a ∷ rs) t (suc i) (suc j) h k d = distinct-at rs (distinct-rest a rs t) i j (le-of-suc-le-suc h) (le-of-suc-le-suc k) d
 
 pub sum-append : {A : Type 0} (f : A → ℕ) (rs ts : List A) → sum f (rs ++ ts) ≡ sum f rs + sum f ts
 sum-append f [] ts = omega arith

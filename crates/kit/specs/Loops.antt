@@ -15,6 +15,11 @@ module _ {A : Type 0} where
   abbrev pub find : (A → Bool) → List A → Found
   find p rs = findFrom p 0 rs
 
+  -- the first element that passes, or d where none does
+  abbrev pub firstOr : A → (A → Bool) → List A → A
+  firstOr d p [] = d
+  firstOr d p (a ∷ rs) = cond (p a) a (firstOr d p rs)
+
   -- every element passes; some element passes
   abbrev pub all : (A → Bool) → List A → Bool
   all p [] = true

@@ -1,0 +1,3 @@
+pub mod Fields
+pub mod Lookups
+pub mod Worked
