@@ -3,6 +3,7 @@ pub mod Decimal
 pub mod Laws
 pub mod Lists
 pub mod Meaning
+pub mod Members
 pub mod Steps
 pub mod Table
 pub mod Writes

@@ -1,0 +1,4 @@
+pub mod Rising
+pub mod Search
+pub mod Sides
+pub mod Worked
