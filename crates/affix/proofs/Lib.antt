@@ -1,0 +1,4 @@
+pub mod LookedUp
+pub mod Prefix
+pub mod Runs
+pub mod Worked
