@@ -81,13 +81,18 @@ pub fn advance(buf: &mut [u8], s: Source) -> Source {
 
 // n with the digit d after it, where that fits 64 bits.
 fn grow(n: u64, d: u64) -> Grown {
-    if 1844674407370955160 < n {
-        return Grown::Over;
-    }
     if 9 < d {
         return Grown::Over;
     }
-    Grown::To(n * 10 + d)
+    if n < 1844674407370955161 {
+        return Grown::To(n * 10 + d);
+    }
+    if n == 1844674407370955161 {
+        if d < 6 {
+            return Grown::To(n * 10 + d);
+        }
+    }
+    Grown::Over
 }
 
 pub fn line_ends(last: u64) -> bool {
@@ -104,7 +109,7 @@ fn digits(buf: &mut [u8], s: Source) -> Taken {
     let mut source = s;
     let mut value: u64 = 0;
     let mut seen: usize = 0;
-    while seen < 20 {
+    while seen < 21 {
         source = advance(buf, source);
         let last = source.last;
         if last < 48 {

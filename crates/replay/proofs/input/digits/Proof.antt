@@ -6,10 +6,10 @@ use Rattle.replay.proofs.input.digits.Statement.{statement}
 use Rattle.replay.proofs.input.digits.Tie as tie
 
 abbrev Inv-loop : tie.InvT-loop
-Inv-loop buf₀ source₀ value₀ seen₀ buf source value seen = (seen ≤ 20) × (length buf ≡ length buf₀)
+Inv-loop buf₀ source₀ value₀ seen₀ buf source value seen = (seen ≤ 21) × (length buf ≡ length buf₀)
 
 abbrev μ-loop : tie.MeasureT-loop
-μ-loop buf₀ source₀ value₀ seen₀ buf source value seen = 20 - seen
+μ-loop buf₀ source₀ value₀ seen₀ buf source value seen = 21 - seen
 
 loop-holds : tie.Need-loop-holds Inv-loop μ-loop
 loop-holds c = search needs
