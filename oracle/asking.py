@@ -2,6 +2,8 @@
 import subprocess
 from pathlib import Path
 
+import lines
+
 ROOT = Path(__file__).resolve().parent.parent
 ORACLE = [str(ROOT / "target" / "oracle" / "oracle")]
 REPLAY = ["bin/run", "replay"]  # how our program is started, in the repository's root
@@ -33,7 +35,7 @@ def ask_oracle(asked):
 
 
 def ask_replay(asked):
-    return [line for at in range(0, len(asked), BATCH) for line in ask(REPLAY, asked[at:at + BATCH])]
+    return [lines.written_out(line) for at in range(0, len(asked), BATCH) for line in ask(REPLAY, asked[at:at + BATCH])]
 
 
 def replay_knows(line):

@@ -58,6 +58,15 @@ def encode_case(op, case):
     return " ".join(words)
 
 
+def written_out(line):
+    """The line with each V*K as K times V, as replay reads and writes runs."""
+    words = []
+    for word in line.split(" "):
+        value, star, times = word.partition("*")
+        words += [value] * int(times) if star and value.isdigit() and times.isdigit() else [word]
+    return " ".join(words)
+
+
 def take_array(numbers, at):
     end = at + 1 + numbers[at]
     if end > len(numbers):
@@ -66,7 +75,7 @@ def take_array(numbers, at):
 
 
 def decode_case(line):
-    words = line.split(" ")
+    words = written_out(line).split(" ")
     op, numbers, at, case = words[0], [int(word) for word in words[1:]], 0, {}
     for name in fields(op):
         if name.endswith("*"):
@@ -89,7 +98,7 @@ def encode_answer(op, answer):
 
 
 def decode_answer(op, line):
-    numbers, at, answer = [int(word) for word in line.split(" ")], 0, {}
+    numbers, at, answer = [int(word) for word in written_out(line).split(" ")], 0, {}
     if op == "parse_header":
         answer["text"], at = take_array(numbers, 0)
     else:

@@ -1,0 +1,3 @@
+pub mod Fields
+pub mod Says
+pub mod Worked
