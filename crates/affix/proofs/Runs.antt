@@ -4,9 +4,9 @@ use mathlib.Core.Path.{_≡_, refl, sym, ap, _∙_}
 use mathlib.Core.Bool.{Bool, true, false, cond, _&&_, and-false}
 use mathlib.Core.List.{List, [], _∷_, map, tail}
 use native.Mathlib.Omega.{arith}
-use native.Mathlib.Numerals.{add-one}
 use lib.ListN.{length, take, drop, getD, List·getD-map, length-map, length-take, drop-of-length-le}
-use lib.Seq.{drop-cons, getD-take}
+use lib.Seq.{getD-take}
+use Rattle.kit.proofs.Steps.{left-at}
 use Rattle.kit.specs.Loops.{all}
 use Rattle.letters.specs.Letters.{sameLetter, isBase}
 use Rattle.store.specs.Graph.{Graph, handle}
@@ -15,10 +15,7 @@ use Rattle.affix.specs.Prefix.{beginsWith, shared, handlesOf, groupPrefi
 use Rattle.affix.specs.Reading.{agree}
 use Rattle.affix.proofs.Prefix.{prefix-take}
 
--- what is left of a list from place i on, in a turn of a loop: of the whole, of its first n, of the members
-pub left-at : {A : Type 0} (l : List A) (i : ℕ) (d : A) → i < length l → drop i l ≡ getD l i d ∷ drop (i + 1) l
-left-at l i d h = rw (add-one, drop-cons l i d h)
-
+-- what is left from place i on, in a turn of a loop: of a list's first n, of the members
 pub left-of-first : (n : ℕ) (l : List ℕ) (i : ℕ) → n ≤ length l → i < n → drop i (take n l) ≡ getD l i 0 ∷ drop (i + 1) (take n l)
 left-of-first n l i h k =
     left-at (take n l) i 0 (omega (arith, length-take n l)) ∙ rw (getD-take n l i 0 k)

@@ -60,14 +60,14 @@ pub fn members_once(members: &[u64]) -> bool
 }
 
 // Where an oriented node's letters stand, and which way they are read.
-struct Reading {
-    start: usize,
-    len: usize,
-    direction: u64,
+pub struct Reading {
+    pub start: usize,
+    pub len: usize,
+    pub direction: u64,
 }
 
 // A node that is not stored has no letters.
-fn look_up(nodes: &[u64], count: usize, member: u64) -> Reading
+pub fn look_up(nodes: &[u64], count: usize, member: u64) -> Reading
     requires { ⌜ 4 * count ≤ length (now nodes) ⌝ }
     ensures { λ r. ⌜ r ≡ readingOf (nodesOf count (now (nodes .entry))) (handle member) ⌝ }
 {
@@ -87,7 +87,7 @@ fn look_up(nodes: &[u64], count: usize, member: u64) -> Reading
     }
 }
 
-fn letter(text: &[u8], r: Reading, i: usize) -> u8
+pub fn letter(text: &[u8], r: Reading, i: usize) -> u8
     requires { ⌜ (r .start + r .len ≤ length (now text)) × (i < r .len) ⌝ }
     ensures { λ b. ⌜ b ≡ getD (read (now (text .entry)) r) i 0 ⌝ }
 {

@@ -14,7 +14,7 @@ ruleAt l i = rule (getD l (4 * i) 0) (getD l (4 * i + 1) 0) (getD l (4 * i + 2) 
 abbrev pub stepAt : List ℕ → ℕ → Step
 stepAt l i = step (getD l (2 * i) 0) (getD l (2 * i + 1) 0)
 
-rule-at : (l : List ℕ) (i : ℕ) → unpackRule (drop (4 * i) l) ≡ ruleAt l i
+pub rule-at : (l : List ℕ) (i : ℕ) → unpackRule (drop (4 * i) l) ≡ ruleAt l i
 rule-at l i = simp (getD-drop, add-zero)
 
 step-at : (l : List ℕ) (i : ℕ) → unpackStep (drop (2 * i) l) ≡ stepAt l i

@@ -1,3 +1,4 @@
 pub mod Fields
+pub mod Order
 pub mod Says
 pub mod Worked

@@ -3,7 +3,7 @@
 use Prim.Native.Nat.{ℕ, _≤_}
 use mathlib.Core.Path.{_≡_, refl}
 use mathlib.Core.Bool.{Bool, _&&_}
-use mathlib.Core.List.{List, [], _∷_}
+use mathlib.Core.List.{List, [], _∷_, _++_}
 use native.Mathlib.Omega.{arith}
 use lib.Dec.{eqb}
 use lib.ListN.{length, take, drop, getD}
@@ -11,6 +11,7 @@ use Rattle.kit.specs.Layout.{Layout, decode}
 use Rattle.kit.specs.Loops.{find}
 use Rattle.kit.specs.declared.Found.{Found}
 use Rattle.handle.specs.declared.Handle.{Handle}
+use Rattle.handle.specs.Handle.{flip}
 use Rattle.events.specs.declared.Used.{Used}
 
 -- a rule's key is id and length together; its walk is `steps` steps from the step `first` on
@@ -115,3 +116,32 @@ keyed id len r = eqb (r .id) id && eqb (r .len) len
 -- the slot of the rule under a key
 abbrev pub findRule : ℕ → ℕ → List Rule → Found
 findRule id len rs = find (keyed id len) rs
+
+abbrev pub stepTo : Handle → ℕ → Step
+stepTo h len = record { node = h; len = len }
+
+-- a walk reversed and flipped, each step with its length
+abbrev pub turnSteps : List Step → List Step
+turnSteps [] = []
+turnSteps (s ∷ ss) = turnSteps ss ++ (stepTo (flip (s .node)) (s .len) ∷ [])
+
+-- a key and its walk, before it has a place in the arrays
+pub record Event : Type 0 where
+  pub id : ℕ
+  pub len : ℕ
+  pub walk : List Step
+
+abbrev pub event : ℕ → ℕ → List Step → Event
+event id len walk = record { id = id; len = len; walk = walk }
+
+-- appended to a list, one after another
+abbrev pub append : Rules → Event → Rules
+append t e =
+    record {
+      rules = t .rules ++ (rule (e .id) (e .len) (length (t .steps)) (length (e .walk)) ∷ []);
+      steps = t .steps ++ e .walk;
+    }
+
+abbrev pub appendAll : Rules → List Event → Rules
+appendAll t [] = t
+appendAll t (e ∷ es) = appendAll (append t e) es

@@ -4,12 +4,12 @@ use handle::Handle;
 use kit::Found;
 ghost use Prim.Native.Nat.{_*_, _≤_};
 ghost use mathlib.Core.Path.{_≡_};
-ghost use mathlib.Core.Bool.{_&&_};
+ghost use mathlib.Core.Bool.{true, _&&_};
 ghost use lib.Dec.{eqb};
 ghost use lib.ListN.{length, drop};
 ghost use Rattle.kit.specs.Loops.{all, any};
-ghost use Rattle.events.specs.Events.{rule, rulesOf, stepsOf, findRule, keyed};
-ghost use Rattle.events.specs.WellFormed.{roomForRules, goodRule, goodStep, hasStep, keysOnce, tableFormed, eventsFormed};
+ghost use Rattle.events.specs.Events.{rule, rulesOf, stepsOf, listOf, findRule, keyed};
+ghost use Rattle.events.specs.WellFormed.{roomForRules, goodRule, goodStep, hasStep, keysOnce, tableFormed, eventsFormed, stepsLater, inOrder};
 
 // How many rules and steps are in use.
 pub struct Used {
@@ -17,7 +17,7 @@ pub struct Used {
     pub steps: usize,
 }
 
-fn same_key(id: u64, len: u64, other: u64, size: u64) -> bool
+pub fn same_key(id: u64, len: u64, other: u64, size: u64) -> bool
     ensures { λ r. ⌜ r ≡ (eqb id other && eqb len size) ⌝ }
 {
     id == other && len == size
@@ -135,7 +135,7 @@ fn have_steps(rules: &[u64], count: usize) -> bool
 }
 
 // Counts inside the lent arrays and 01's limits.
-fn room_for_rules(rules: &[u64], steps: &[u64], c: Used) -> bool
+pub fn room_for_rules(rules: &[u64], steps: &[u64], c: Used) -> bool
     ensures { λ r. ⌜ r ≡ roomForRules (now (rules .entry)) (now (steps .entry)) c ⌝ }
 {
     if 65536 < c.rules {
@@ -171,4 +171,51 @@ pub fn events_formed(rules: &[u64], steps: &[u64], c: Used) -> bool
         return false;
     }
     have_steps(rules, c.rules)
+}
+
+// Whether a rule under this key stands among the first `met`.
+fn key_met(rules: &[u64], met: usize, id: u64, len: u64) -> bool
+    requires { ⌜ 4 * met ≤ length (now rules) ⌝ }
+    ensures { λ r. ⌜ r ≡ any (keyed id len) (rulesOf met (now (rules .entry))) ⌝ }
+{
+    let Found::At(_) = find_rule(rules, met, id, len) else {
+        return false;
+    };
+    true
+}
+
+// Whether none of the steps from `start` to `end` has its own rule among the first `met`.
+fn steps_later(rules: &[u64], met: usize, steps: &[u64], start: usize, end: usize) -> bool
+    requires { ⌜ (4 * met ≤ length (now rules)) × (2 * end ≤ length (now steps)) ⌝ }
+    ensures { λ r. ⌜ r ≡ stepsLater (rulesOf met (now (rules .entry))) (drop start (stepsOf end (now (steps .entry)))) ⌝ }
+{
+    let mut j = start;
+    while j < end {
+        let node = Handle {
+            packed: steps[2 * j],
+        };
+        if key_met(rules, met, node.id(), steps[2 * j + 1]) {
+            return false;
+        }
+        j += 1;
+    }
+    true
+}
+
+// 12: a step's own rule comes after the step's event, which itself is too early.
+pub fn in_order(rules: &[u64], steps: &[u64], c: Used) -> bool
+    requires { ⌜ tableFormed (now rules) (now steps) c ≡ true ⌝ }
+    ensures { λ r. ⌜ r ≡ inOrder (listOf (now (rules .entry)) (now (steps .entry)) c) ⌝ }
+{
+    let count = c.rules;
+    let mut i: usize = 0;
+    while i < count {
+        let first = rules[4 * i + 2] as usize;
+        let end = first + rules[4 * i + 3] as usize;
+        if !steps_later(rules, i + 1, steps, first, end) {
+            return false;
+        }
+        i += 1;
+    }
+    true
 }

@@ -46,7 +46,7 @@ pub fn same_key(nodes: &[u64], text: &[u8], links: &[u64], c: Counts, u: Handle,
 }
 
 // The next live right neighbour of v above a packed number that has u's key; 0 where there is none.
-fn next_of_key(
+pub fn next_of_key(
     nodes: &[u64],
     text: &[u8],
     links: &[u64],
@@ -80,7 +80,7 @@ fn is_head(nodes: &[u64], text: &[u8], links: &[u64], c: Counts, v: Handle, u: H
 }
 
 // The next of them above a packed number; 0 where there is none.
-fn next_head(nodes: &[u64], text: &[u8], links: &[u64], c: Counts, v: Handle, above: u64) -> u64
+pub fn next_head(nodes: &[u64], text: &[u8], links: &[u64], c: Counts, v: Handle, above: u64) -> u64
     requires { ⌜ wellFormed (now nodes) (now text) (now links) c ≡ true ⌝ }
     ensures { λ r. ⌜ r ≡ nextAbove above (headsOf (graphOf (now (nodes .entry)) (now (text .entry)) (now (links .entry)) c) v) ⌝ }
 {
@@ -111,6 +111,30 @@ pub fn count_groups(nodes: &[u64], text: &[u8], links: &[u64], c: Counts, v: Han
         }
         n += 1;
         above = u;
+    }
+}
+
+// How many members u's group has.
+pub fn count_of_key(
+    nodes: &[u64],
+    text: &[u8],
+    links: &[u64],
+    c: Counts,
+    v: Handle,
+    u: Handle,
+) -> usize
+    requires { ⌜ wellFormed (now nodes) (now text) (now links) c ≡ true ⌝ }
+    ensures { λ r. ⌜ r ≡ length (ofKey (graphOf (now (nodes .entry)) (now (text .entry)) (now (links .entry)) c) v u) ⌝ }
+{
+    let mut n: usize = 0;
+    let mut above: u64 = 0;
+    loop {
+        let w = next_of_key(nodes, text, links, c, v, u, above);
+        if w == 0 {
+            return n;
+        }
+        n += 1;
+        above = w;
     }
 }
 
@@ -151,7 +175,7 @@ fn place(direction: u64, low: usize, high: usize) -> usize
 }
 
 // Writes u's group from `base` on, and says where it ends.
-fn write_group(
+pub fn write_group(
     nodes: &[u64],
     text: &[u8],
     links: &[u64],

@@ -75,6 +75,12 @@ module _ {A : Type 0} (L : Layout A) where
   pub left-none : (n i : ℕ) (l : List ℕ) → n ≤ i → drop i (decode L n l) ≡ []
   left-none n i l h = drop-of-length-le (decode L n l) {i = i} (rw length-decode h)
 
+  -- the first k of n records
+  pub decode-take : (k n : ℕ) (l : List ℕ) → k ≤ n → take k (decode L n l) ≡ decode L k l
+  decode-take zero n l h = refl
+  decode-take (suc k) zero l h = absurd (not-suc-le-zero h)
+  decode-take (suc k) (suc n) l h = ap (λ (t : List A). L .unpack l ∷ t) (decode-take k n (drop (L .stride) l) (le-of-suc-le-suc h))
+
   -- one record more
   pub decode-snoc : (n : ℕ) (l : List ℕ) → decode L (suc n) l ≡ decode L n l ++ (L .unpack (drop (L .stride * n) l) ∷ [])
   decode-snoc zero l = rw mul-zero
@@ -153,3 +159,9 @@ module _ {A : Type 0} (L : Layout A) where
   then-length n rs l e h =
       let q : length (encode L rs) ≡ L .stride * n = length-encode rs ∙ ap (λ (x : ℕ). L .stride * x) e in
       length-append (encode L rs) (drop (L .stride * n) l) ∙ omega (arith, length-drop (L .stride * n) l)
+
+-- lists that are alike from n on are so from m on
+pub alike-further : {A : Type 0} (n m : ℕ) (l k : List A) → n ≤ m → drop n l ≡ drop n k → drop m l ≡ drop m k
+alike-further n m l k h e =
+    let s : n + (m - n) ≡ m = omega arith in
+    ap (λ (x : ℕ). drop x l) (sym s) ∙ sym (drop-drop (m - n) n l) ∙ ap (drop (m - n)) e ∙ drop-drop (m - n) n k ∙ ap (λ (x : ℕ). drop x k) s

@@ -11,6 +11,10 @@ use lib.Seq.{take-length, drop-length, length-take-le, drop-cons, getD-take, get
 use Rattle.kit.specs.declared.Found.the-variants.{At, Nothing}
 use Rattle.kit.specs.Loops.{findFrom, all, any, distinct, sum, count, mapFrom, keep}
 
+-- what is left of a list from place i on, in a turn of a loop
+pub left-at : {A : Type 0} (l : List A) (i : ℕ) (d : A) → i < length l → drop i l ≡ getD l i d ∷ drop (i + 1) l
+left-at l i d h = rw (add-one, drop-cons l i d h)
+
 module _ {A : Type 0} where
   -- a search: the element in front passes, or does not, or there is none
   pub find-hit : (p : A → Bool) (i : ℕ) {a : A} {rs tail : List A} → rs ≡ a ∷ tail → p a ≡ true → findFrom p i rs ≡ At i

@@ -28,7 +28,7 @@ fn offer(given: bool, u: Handle, above: u64, best: u64) -> u64
 }
 
 // Where a link leads from v: by its own form, and by its other one.
-fn lead(v: Handle, from: Handle, to: Handle, above: u64, best: u64) -> u64
+pub fn lead(v: Handle, from: Handle, to: Handle, above: u64, best: u64) -> u64
     ensures { λ r. ⌜ r ≡ lowest above best (rightEnds v (link (edge from to) 0)) ⌝ }
 {
     let near = to.flip();

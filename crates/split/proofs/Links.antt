@@ -131,7 +131,7 @@ module _ (nodes : List Node) (id k : ℕ) (once : idsOnce nodes ≡ true) (is : 
             (ap (λ (j : ℕ). stored j after) id-f ∙ stored-fresh id k nodes once is);
       })
 
-  live-link : (r : Link) → Away f (ends r) → liveLink after (moveLink v f r) ≡ liveLink nodes r
+  pub live-link : (r : Link) → Away f (ends r) → liveLink after (moveLink v f r) ≡ liveLink nodes r
   live-link r a =
       let e = written (moveEnds v f (ends r)) in
       and-assoc (eqb (r .mark) 0) (live (idOf (e .from))) (live (idOf (e .to)))
@@ -139,7 +139,7 @@ module _ (nodes : List Node) (id k : ℕ) (once : idsOnce nodes ≡ true) (is : 
       ∙ sym (and-assoc (eqb (r .mark) 0) (liveNode (idOf (r .from)) nodes) (liveNode (idOf (r .to)) nodes))
 
   -- the new link is live where v was
-  live-ends : bothEnds live (edge v f) ≡ liveNode id nodes
+  pub live-ends : bothEnds live (edge v f) ≡ liveNode id nodes
   live-ends =
       ap₂ _&&_
       (ap live id-v ∙ live-old id k nodes once is id (λ e. old-id id is (e ∙ sym id-f)))

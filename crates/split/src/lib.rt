@@ -53,7 +53,7 @@ fn move_links(links: &mut [u64], count: usize, v: Handle, f: Handle)
 }
 
 // One link more, at the end, unmarked.
-fn push_link(links: &mut [u64], count: usize, from: Handle, to: Handle)
+pub fn push_link(links: &mut [u64], count: usize, from: Handle, to: Handle)
     requires { ⌜ 3 * (count + 1) ≤ length (now links) ⌝ }
     ensures { λ _. ⌜ now (links .exit) ≡ encode linkLayout (linksOf count (now (links .entry)) ++ (link (edge from to) 0 ∷ [])) ++ drop (3 * (count + 1)) (now (links .entry)) ⌝ }
 {
@@ -63,7 +63,7 @@ fn push_link(links: &mut [u64], count: usize, from: Handle, to: Handle)
 }
 
 // Marked links move as well, and keep their marks; v to fresh is new and unmarked.
-fn split_links(links: &mut [u64], count: usize, id: u64, fresh: u64)
+pub fn split_links(links: &mut [u64], count: usize, id: u64, fresh: u64)
     requires { ⌜ 3 * (count + 1) ≤ length (now links) ⌝ }
     requires { ⌜ (id ≤ maxId) × (fresh ≤ maxId) ⌝ }
     ensures { λ _. ⌜ now (links .exit) ≡ encode linkLayout (splitLinks id fresh (linksOf count (now (links .entry)))) ++ drop (3 * (count + 1)) (now (links .entry)) ⌝ }
@@ -95,7 +95,7 @@ fn push_node(nodes: &mut [u64], count: usize, id: u64, start: u64, len: u64, mar
 }
 
 // The node `id` keeps its first k letters, and the rest of it stands under the id `fresh`, at the end.
-fn split_nodes(nodes: &mut [u64], count: usize, at: usize, id: u64, fresh: u64, k: u64)
+pub fn split_nodes(nodes: &mut [u64], count: usize, at: usize, id: u64, fresh: u64, k: u64)
     requires { ⌜ 4 * (count + 1) ≤ length (now nodes) ⌝ }
     requires { ⌜ (at < count) × (findNode id (nodesOf count (now nodes)) ≡ At at) × (idsOnce (nodesOf count (now nodes)) ≡ true) ⌝ }
     requires { ⌜ fresh ≡ largest (nodesOf count (now nodes)) + 1 ⌝ }

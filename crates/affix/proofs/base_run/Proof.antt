@@ -5,11 +5,12 @@ use native.Mathlib.Omega.{arith}
 use borrow.Author.Needs.{needs}
 use borrow.Author.Tests.{not-true, not-false}
 use lib.ListN.{length, drop, drop-of-length-le}
+use Rattle.kit.proofs.Steps.{left-at}
 use Rattle.letters.specs.Letters.{isBase}
 use Rattle.affix.specs.Reading.{read}
 use Rattle.affix.specs.Prefix.{shared}
 use Rattle.affix.proofs.LookedUp.{length-read}
-use Rattle.affix.proofs.Runs.{left-at, bases-more, bases-stop, bases-end}
+use Rattle.affix.proofs.Runs.{bases-more, bases-stop, bases-end}
 use Rattle.affix.proofs.base_run.Statement.{statement}
 use Rattle.affix.proofs.base_run.Tie as tie
 

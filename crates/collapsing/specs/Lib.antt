@@ -1,0 +1,6 @@
+pub mod Ahead
+pub mod Longer
+pub mod Making
+pub mod Outcome
+pub mod Put
+pub mod Ready

@@ -1,0 +1,5 @@
+pub mod Along
+pub mod Firsts
+pub mod Theorems
+pub mod Trying
+pub mod Worked

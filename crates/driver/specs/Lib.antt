@@ -1,0 +1,4 @@
+pub mod Drive
+pub mod Outcome
+pub mod Scan
+pub mod Search

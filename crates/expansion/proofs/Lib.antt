@@ -1,0 +1,13 @@
+pub mod Built
+pub mod Filled
+pub mod Lengths
+pub mod Nodes
+pub mod Order
+pub mod Parts
+pub mod Places
+pub mod Tables
+pub mod Theorems
+pub mod Turn
+pub mod Walking
+pub mod Worked
+pub mod Writing

@@ -1,0 +1,4 @@
+pub mod Building
+pub mod Expansion
+pub mod Filling
+pub mod Table

@@ -1,0 +1,4 @@
+// A collapse, in the arrays that hold the graph. Who calls these has tested what they require.
+pub mod back;
+pub mod links;
+pub mod nodes;

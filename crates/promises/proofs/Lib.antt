@@ -1,0 +1,9 @@
+pub mod First
+pub mod Live
+pub mod No
+pub mod Outcomes
+pub mod Reading
+pub mod Rewrites
+pub mod Walked
+pub mod Worked
+pub mod Yes

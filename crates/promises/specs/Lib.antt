@@ -1,0 +1,4 @@
+pub mod Conditions
+pub mod Outcomes
+pub mod Tests
+pub mod Walks

@@ -1,0 +1,5 @@
+pub mod Images
+pub mod Old
+pub mod Tables
+pub mod Walks
+pub mod Worked
