@@ -1,5 +1,5 @@
 """Cases for replay with their answers worked out by hand from 01: every reason for each number, just inside and just
-outside. Each is (what it shows, the operation, its numbers, the answer's numbers, the lent arrays before, after)."""
+outside. Each is (what it shows, the operation, what the case holds, what its answer holds), each in its order."""
 
 A, C, G, T, N = b"ACGTN"
 TWO = [1, 0, 1, 0, 2, 1, 3, 0]  # 1 is A, 2 is ACG
@@ -157,4 +157,12 @@ NO_CASES = [
     ("live_letters 0 0 0 0 0 x", "bad numbers"),
     ("live_letters 0 1 256 0 0 1 0", "bad letters"),
     ("live_letters 0 0 0 0 0 18446744073709551616", "bad numbers"),
+    ("spell_walk 0*6 0 1 256", "bad letters"),
+    ("enumerate_branch 0*7 65537 0*65537 0", "bad room"),
+    ("get_shared_prefix 0*6 0 65537 0*65536 256", "bad letters"),
+    ("expand 0*4 131073 0*131073 0", "bad room"),
+    ("expand 0*4 0 65537 0*65537", "bad room"),
+    ("collapse 16385 0*16385 0*11", "bad room"),
+    ("collapse_all 0*6 16385 0*16385 0*4", "bad room"),
+    ("check_transform 0*7 131073 65*131073 0*9", "bad letters"),
 ]

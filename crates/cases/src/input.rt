@@ -1,15 +1,13 @@
 // Cases from standard input: a name, then numbers, one case to a line (docs/REPLAY.md).
-use libc::STDIN_FILENO;
+use crate::stream;
+use crate::stream::END;
+use crate::stream::Source;
 ghost use Prim.Native.Nat.{_≤_};
 ghost use mathlib.Core.Path.{_≡_};
+ghost use mathlib.Core.Bool.{true, false};
 ghost use lib.ListN.{length};
-
-// The unread part of the buffer, and the byte read last: END past the end of the input.
-pub struct Source {
-    pub at: usize,
-    pub end: usize,
-    pub last: u64,
-}
+ghost use Rattle.cases.specs.Input.{grown, sameWord};
+ghost use Rattle.cases.specs.Stream.{lineEnds};
 
 // A number that was read, or what stood there instead (ok is false).
 pub struct Taken {
@@ -30,57 +28,16 @@ enum Grown {
     Over,
 }
 
-pub const NEWLINE: u64 = 10;
-
 pub const SPACE: u64 = 32;
 
 pub const HASH: u64 = 35;
 
 pub const TIMES: u64 = 42;
 
-pub const END: u64 = 256;
-
-pub fn wide(b: u8) -> u64 {
-    b as u64
-}
-
-// One byte more.
-pub fn advance(buf: &mut [u8], s: Source) -> Source {
-    let at = s.at;
-    let end = s.end;
-    if at < end {
-        if at < buf.len() {
-            return Source {
-                at: at + 1,
-                end,
-                last: wide(buf[at]),
-            };
-        }
-    }
-    let got = io::read_full(STDIN_FILENO, buf);
-    if got == 0 {
-        return Source {
-            at: 0,
-            end: 0,
-            last: END,
-        };
-    }
-    if buf.len() == 0 {
-        return Source {
-            at: 0,
-            end: 0,
-            last: END,
-        };
-    }
-    Source {
-        at: 1,
-        end: got,
-        last: wide(buf[0]),
-    }
-}
-
 // n with the digit d after it, where that fits 64 bits.
-fn grow(n: u64, d: u64) -> Grown {
+fn grow(n: u64, d: u64) -> Grown
+    ensures { λ r. ⌜ r ≡ grown n d ⌝ }
+{
     if 9 < d {
         return Grown::Over;
     }
@@ -95,13 +52,9 @@ fn grow(n: u64, d: u64) -> Grown {
     Grown::Over
 }
 
-pub fn line_ends(last: u64) -> bool {
-    last == NEWLINE || last == END
-}
-
 // What may stand after a number.
 fn stops(last: u64) -> bool {
-    last == SPACE || last == TIMES || line_ends(last)
+    last == SPACE || last == TIMES || stream::line_ends(last)
 }
 
 // A run of digits and the byte after it.
@@ -110,7 +63,7 @@ fn digits(buf: &mut [u8], s: Source) -> Taken {
     let mut value: u64 = 0;
     let mut seen: usize = 0;
     while seen < 21 {
-        source = advance(buf, source);
+        source = stream::advance(buf, source);
         let last = source.last;
         if last < 48 {
             return Taken {
@@ -144,7 +97,7 @@ fn digits(buf: &mut [u8], s: Source) -> Taken {
 }
 
 // The next number of the line; none where the line has ended.
-pub fn number(buf: &mut [u8], s: Source) -> Taken {
+fn number(buf: &mut [u8], s: Source) -> Taken {
     if s.last == SPACE {
         return digits(buf, s);
     }
@@ -209,12 +162,12 @@ fn element(buf: &mut [u8], s: Source, out: &mut [u64], from: usize, most: usize)
 
 // All numbers of the line.
 pub fn numbers(buf: &mut [u8], s: Source, out: &mut [u64]) -> Filled
-    ensures { λ r. ⌜ r .count ≤ length (now (out .exit)) ⌝ }
+    ensures { λ r. ⌜ (r .count ≤ length (now (out .exit))) × (r .ok ≡ true → lineEnds (r .source .last) ≡ true) ⌝ }
 {
     let mut source = s;
     let mut i: usize = 0;
     while i < out.len() {
-        if line_ends(source.last) {
+        if stream::line_ends(source.last) {
             return Filled {
                 ok: true,
                 count: i,
@@ -231,8 +184,8 @@ pub fn numbers(buf: &mut [u8], s: Source, out: &mut [u64]) -> Filled
     bad(source)
 }
 
-pub fn bad(source: Source) -> Filled
-    ensures { λ r. ⌜ r .count ≡ 0 ⌝ }
+fn bad(source: Source) -> Filled
+    ensures { λ r. ⌜ (r .ok ≡ false) × (r .count ≡ 0) ⌝ }
 {
     Filled {
         ok: false,
@@ -249,7 +202,7 @@ pub fn word(buf: &mut [u8], s: Source, out: &mut [u8]) -> Filled
     let mut i: usize = 0;
     while i < out.len() {
         let last = source.last;
-        if last == SPACE || line_ends(last) {
+        if last == SPACE || stream::line_ends(last) {
             return Filled {
                 ok: true,
                 count: i,
@@ -261,34 +214,19 @@ pub fn word(buf: &mut [u8], s: Source, out: &mut [u8]) -> Filled
         }
         out[i] = last as u8;
         i += 1;
-        source = advance(buf, source);
+        source = stream::advance(buf, source);
     }
     bad(source)
 }
 
-// To the end of the line.
-pub fn skip_line(buf: &mut [u8], s: Source) -> Source {
-    let mut source = s;
-    let mut turns: u64 = 0;
-    while turns < 1099511627776 {
-        if line_ends(source.last) {
-            return source;
-        }
-        source = advance(buf, source);
-        turns += 1;
-    }
-    source
-}
-
-pub fn same_word(a: &[u8], b: &[u8]) -> bool {
+pub fn same_word(a: &[u8], b: &[u8]) -> bool
+    ensures { λ r. ⌜ r ≡ sameWord (now (a .entry)) (now (b .entry)) ⌝ }
+{
     if a.len() != b.len() {
         return false;
     }
     let mut i: usize = 0;
     while i < a.len() {
-        if b.len() <= i {
-            return false;
-        }
         if a[i] != b[i] {
             return false;
         }

@@ -1,12 +1,17 @@
 // Answers to standard output, through a buffer.
+use crate::faults;
+use crate::lend;
 use crate::parts;
+use events::Used;
 use libc::STDOUT_FILENO;
+use store::Counts;
 ghost use Prim.Native.Nat.{_-_, _+_, _≤_, _<_};
 ghost use lib.ListN.{length};
+ghost use Rattle.cases.specs.Answers.{Room};
 
 // What was written leaves the buffer where fewer than 32 bytes are free; the place to go on at.
 fn room(out: &[u8], at: usize) -> usize
-    requires { ⌜ (at ≤ length (now out)) × (32 ≤ length (now out)) ⌝ }
+    requires { ⌜ Room at (now out) ⌝ }
     ensures { λ r. ⌜ r + 32 ≤ length (now (out .entry)) ⌝ }
 {
     if out.len() - at < 32 {
@@ -17,8 +22,8 @@ fn room(out: &[u8], at: usize) -> usize
 }
 
 pub fn put_byte(out: &mut [u8], at: usize, b: u8) -> usize
-    requires { ⌜ (at ≤ length (now out)) × (32 ≤ length (now out)) ⌝ }
-    ensures { λ r. ⌜ r ≤ length (now (out .exit)) ⌝ }
+    requires { ⌜ Room at (now out) ⌝ }
+    ensures { λ r. ⌜ Room r (now (out .exit)) ⌝ }
 {
     let from = room(out, at);
     out[from] = b;
@@ -26,8 +31,8 @@ pub fn put_byte(out: &mut [u8], at: usize, b: u8) -> usize
 }
 
 pub fn put_number(out: &mut [u8], at: usize, n: u64) -> usize
-    requires { ⌜ (at ≤ length (now out)) × (32 ≤ length (now out)) ⌝ }
-    ensures { λ r. ⌜ r ≤ length (now (out .exit)) ⌝ }
+    requires { ⌜ Room at (now out) ⌝ }
+    ensures { λ r. ⌜ Room r (now (out .exit)) ⌝ }
 {
     let from = room(out, at);
     kit::put_decimal(out, from, n)
@@ -35,11 +40,36 @@ pub fn put_number(out: &mut [u8], at: usize, n: u64) -> usize
 
 // A space and a number.
 pub fn put_next(out: &mut [u8], at: usize, n: u64) -> usize
-    requires { ⌜ (at ≤ length (now out)) × (32 ≤ length (now out)) ⌝ }
-    ensures { λ r. ⌜ r ≤ length (now (out .exit)) ⌝ }
+    requires { ⌜ Room at (now out) ⌝ }
+    ensures { λ r. ⌜ Room r (now (out .exit)) ⌝ }
 {
     let from = put_byte(out, at, b' ');
     put_number(out, from, n)
+}
+
+pub fn put_two(out: &mut [u8], at: usize, a: u64, b: u64) -> usize
+    requires { ⌜ Room at (now out) ⌝ }
+    ensures { λ r. ⌜ Room r (now (out .exit)) ⌝ }
+{
+    let to = put_number(out, at, a);
+    put_next(out, to, b)
+}
+
+pub fn put_counts(out: &mut [u8], at: usize, c: Counts) -> usize
+    requires { ⌜ Room at (now out) ⌝ }
+    ensures { λ r. ⌜ Room r (now (out .exit)) ⌝ }
+{
+    let a = put_next(out, at, c.nodes as u64);
+    let b = put_next(out, a, c.letters as u64);
+    put_next(out, b, c.links as u64)
+}
+
+pub fn put_used(out: &mut [u8], at: usize, u: Used) -> usize
+    requires { ⌜ Room at (now out) ⌝ }
+    ensures { λ r. ⌜ Room r (now (out .exit)) ⌝ }
+{
+    let a = put_next(out, at, u.rules as u64);
+    put_next(out, a, u.steps as u64)
 }
 
 // How many numbers from i on equal the one at i.
@@ -57,10 +87,23 @@ fn run(numbers: &[u64], i: usize) -> usize
     n
 }
 
-// A lent array: a space, its length, then its numbers; equal ones in a row once, with `*` and how many they are.
+// A space and a number, with `*` and how often it stands where that is more than once.
+fn put_run(out: &mut [u8], at: usize, value: u64, n: u64) -> usize
+    requires { ⌜ Room at (now out) ⌝ }
+    ensures { λ r. ⌜ Room r (now (out .exit)) ⌝ }
+{
+    let next = put_next(out, at, value);
+    if n == 1 {
+        return next;
+    }
+    let from = put_byte(out, next, b'*');
+    put_number(out, from, n)
+}
+
+// A lent array: a space, its length, then its numbers, equal ones in a row as a run.
 pub fn put_array(out: &mut [u8], at: usize, numbers: &[u64]) -> usize
-    requires { ⌜ (at ≤ length (now out)) × (32 ≤ length (now out)) ⌝ }
-    ensures { λ r. ⌜ r ≤ length (now (out .exit)) ⌝ }
+    requires { ⌜ Room at (now out) ⌝ }
+    ensures { λ r. ⌜ Room r (now (out .exit)) ⌝ }
 {
     let mut to = put_next(out, at, numbers.len() as u64);
     let mut i: usize = 0;
@@ -72,22 +115,55 @@ pub fn put_array(out: &mut [u8], at: usize, numbers: &[u64]) -> usize
     to
 }
 
-// A space and a number, with `*` and how often it stands where that is more than once.
-fn put_run(out: &mut [u8], at: usize, value: u64, n: u64) -> usize
-    requires { ⌜ (at ≤ length (now out)) × (32 ≤ length (now out)) ⌝ }
-    ensures { λ r. ⌜ r ≤ length (now (out .exit)) ⌝ }
+// The arrays among the first k items of a case, as they were given.
+pub fn put_given(out: &mut [u8], at: usize, numbers: &[u64], shape: &[u8], k: usize) -> usize
+    requires { ⌜ Room at (now out) ⌝ }
+    ensures { λ r. ⌜ Room r (now (out .exit)) ⌝ }
 {
-    let next = put_next(out, at, value);
-    if n == 1 {
-        return next;
+    let mut to = at;
+    let mut i: usize = 0;
+    while i < k {
+        to = put_item(out, to, numbers, shape, i);
+        i += 1;
     }
-    let from = put_byte(out, next, b'*');
-    put_number(out, from, n)
+    to
+}
+
+// Item i, if it is an array.
+pub fn put_item(out: &mut [u8], at: usize, numbers: &[u64], shape: &[u8], i: usize) -> usize
+    requires { ⌜ Room at (now out) ⌝ }
+    ensures { λ r. ⌜ Room r (now (out .exit)) ⌝ }
+{
+    if i < shape.len() {
+        if shape[i] == parts::NUMBER {
+            return at;
+        }
+    }
+    let elements = parts::array(numbers, shape, i);
+    put_array(out, at, elements)
+}
+
+// The last array of an answer.
+pub fn put_last(out: &mut [u8], at: usize, numbers: &[u64]) -> usize
+    requires { ⌜ Room at (now out) ⌝ }
+    ensures { λ r. ⌜ Room r (now (out .exit)) ⌝ }
+{
+    let to = put_array(out, at, numbers);
+    put_byte(out, to, b'\n')
+}
+
+pub fn put_last_bytes(out: &mut [u8], at: usize, bytes: &[u8]) -> usize
+    requires { ⌜ Room at (now out) ⌝ }
+    ensures { λ r. ⌜ Room r (now (out .exit)) ⌝ }
+{
+    let mut space = [0u64; 65536];
+    let numbers = lend::widen(bytes, &mut space);
+    put_last(out, at, numbers)
 }
 
 pub fn put_text(out: &mut [u8], at: usize, text: &[u8]) -> usize
-    requires { ⌜ (at ≤ length (now out)) × (32 ≤ length (now out)) ⌝ }
-    ensures { λ r. ⌜ r ≤ length (now (out .exit)) ⌝ }
+    requires { ⌜ Room at (now out) ⌝ }
+    ensures { λ r. ⌜ Room r (now (out .exit)) ⌝ }
 {
     let mut to = at;
     let mut i: usize = 0;
@@ -98,104 +174,17 @@ pub fn put_text(out: &mut [u8], at: usize, text: &[u8]) -> usize
     to
 }
 
-pub fn put_graph(out: &mut [u8], at: usize, nodes: &[u64], letters: &[u64], links: &[u64]) -> usize
-    requires { ⌜ (at ≤ length (now out)) × (32 ≤ length (now out)) ⌝ }
-    ensures { λ r. ⌜ r ≤ length (now (out .exit)) ⌝ }
-{
-    let a = put_array(out, at, nodes);
-    let b = put_array(out, a, letters);
-    put_array(out, b, links)
-}
-
-pub fn put_two(out: &mut [u8], at: usize, a: u64, b: u64) -> usize
-    requires { ⌜ (at ≤ length (now out)) × (32 ≤ length (now out)) ⌝ }
-    ensures { λ r. ⌜ r ≤ length (now (out .exit)) ⌝ }
-{
-    let to = put_number(out, at, a);
-    put_next(out, to, b)
-}
-
-// The first n of these numbers, as a lent array.
-pub fn put_first(out: &mut [u8], at: usize, numbers: &[u64], n: usize) -> usize
-    requires { ⌜ (at ≤ length (now out)) × (32 ≤ length (now out)) ⌝ }
-    ensures { λ r. ⌜ r ≤ length (now (out .exit)) ⌝ }
-{
-    if numbers.len() < n {
-        return put_array(out, at, numbers);
-    }
-    put_array(out, at, &numbers[..n])
-}
-
-// The first n of these bytes, as a lent array; `wide` is scratch.
-pub fn put_bytes(out: &mut [u8], at: usize, bytes: &[u8], n: usize, wide: &mut [u64]) -> usize
-    requires { ⌜ (at ≤ length (now out)) × (32 ≤ length (now out)) ⌝ }
-    ensures { λ r. ⌜ r ≤ length (now (out .exit)) ⌝ }
-{
-    if bytes.len() < n {
-        return put_text(out, at, b" bad room");
-    }
-    if !parts::widen(&bytes[..n], wide) {
-        return put_text(out, at, b" bad room");
-    }
-    put_first(out, at, wide, n)
-}
-
-// The last array of an answer: the first n of these bytes.
-pub fn put_last_bytes(out: &mut [u8], at: usize, bytes: &[u8], n: usize) -> usize
-    requires { ⌜ (at ≤ length (now out)) × (32 ≤ length (now out)) ⌝ }
-    ensures { λ r. ⌜ r ≤ length (now (out .exit)) ⌝ }
-{
-    let mut wide = [0u64; 65536];
-    let to = put_bytes(out, at, bytes, n, &mut wide);
-    put_byte(out, to, b'\n')
-}
-
-// The last two arrays of an answer: the first k and the first m of these numbers.
-pub fn put_last_two(
-    out: &mut [u8],
-    at: usize,
-    one: &[u64],
-    k: usize,
-    other: &[u64],
-    m: usize,
-) -> usize
-    requires { ⌜ (at ≤ length (now out)) × (32 ≤ length (now out)) ⌝ }
-    ensures { λ r. ⌜ r ≤ length (now (out .exit)) ⌝ }
-{
-    let a = put_first(out, at, one, k);
-    let b = put_first(out, a, other, m);
-    put_byte(out, b, b'\n')
-}
-
-// The head of an answer: its two numbers and the graph.
-pub fn put_answer(
-    out: &mut [u8],
-    at: usize,
-    a: u64,
-    b: u64,
-    nodes: &[u64],
-    letters: &[u64],
-    links: &[u64],
-) -> usize
-    requires { ⌜ (at ≤ length (now out)) × (32 ≤ length (now out)) ⌝ }
-    ensures { λ r. ⌜ r ≤ length (now (out .exit)) ⌝ }
-{
-    let to = put_two(out, at, a, b);
-    put_graph(out, to, nodes, letters, links)
-}
-
-// What is wrong with a case.
 pub fn put_fault(out: &mut [u8], at: usize, fault: u64) -> usize
-    requires { ⌜ (at ≤ length (now out)) × (32 ≤ length (now out)) ⌝ }
-    ensures { λ r. ⌜ r ≤ length (now (out .exit)) ⌝ }
+    requires { ⌜ Room at (now out) ⌝ }
+    ensures { λ r. ⌜ Room r (now (out .exit)) ⌝ }
 {
-    if fault == parts::BAD_NUMBERS {
+    if fault == faults::BAD_NUMBERS {
         return put_text(out, at, b"bad numbers\n");
     }
-    if fault == parts::BAD_END {
+    if fault == faults::BAD_END {
         return put_text(out, at, b"bad end\n");
     }
-    if fault == parts::BAD_LETTERS {
+    if fault == faults::BAD_LETTERS {
         return put_text(out, at, b"bad letters\n");
     }
     put_text(out, at, b"bad room\n")

@@ -21,9 +21,9 @@ use Rattle.affix.proofs.Prefix.{agrees-before}
 use Rattle.events.specs.Events.{Rules, Event, appendAll}
 use Rattle.merging.specs.Merging.{isLong, collapsed}
 use Rattle.merging.specs.Plan.{longBy}
-use Rattle.merging.proofs.NodesAlone.{nodes-are}
-use Rattle.merging.proofs.Members.{Collapses}
-use Rattle.merging.proofs.Theorems.{count-after}
+use Rattle.merged.proofs.NodesAlone.{nodes-are}
+use Rattle.merged.proofs.Members.{Collapses}
+use Rattle.merged.proofs.Theorems.{count-after}
 use Rattle.collapsing.specs.Making.{Room, state, sameLefts, needsHigh, membersNumber, listNumber, groupNumber, stateAfter, fits}
 use Rattle.collapsing.specs.Ahead.{eventsBy}
 use Rattle.collapsing.specs.Longer.{Passed}
@@ -33,7 +33,7 @@ use Rattle.collapsing.proofs.ByMember.{lengthIn, event-count, event-ste
 use Rattle.collapsing.proofs.Foreseen.{events-are}
 
 -- a test whose number is not given was not met
-untold : (b : Bool) (n k : ℕ) → cond b (suc n) k ≡ 0 → (b ≡ false) × (k ≡ 0)
+pub untold : (b : Bool) (n k : ℕ) → cond b (suc n) k ≡ 0 → (b ≡ false) × (k ≡ 0)
 untold true n k e = absurd (omega arith)
 untold false n k e = (refl, e)
 

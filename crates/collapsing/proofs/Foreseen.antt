@@ -12,8 +12,8 @@ use Rattle.events.specs.Events.{Step, Event, event, stepTo, turnSteps}
 use Rattle.split.specs.Split.{freshId}
 use Rattle.merging.specs.Merging.{isLong, isForward, alone, prefixOf, later}
 use Rattle.merging.specs.Plan.{freshAfter, suffixBy}
-use Rattle.merging.proofs.Members.{Collapses, same-len}
-use Rattle.merging.proofs.Theorems.{Shares, turn, left, still, first, others, shares}
+use Rattle.merged.proofs.Members.{Collapses, same-len}
+use Rattle.merged.proofs.Theorems.{Shares, turn, left, still, first, others, shares}
 use Rattle.collapsing.specs.Making.{eventFor, laterEvents, eventsFor}
 use Rattle.collapsing.specs.Ahead.{laterEventsBy, firstEventBy, eventsBy}
 

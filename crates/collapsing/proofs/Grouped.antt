@@ -20,11 +20,11 @@ use Rattle.events.specs.declared.Used.{Used}
 use Rattle.events.specs.Events.{Rules, Event, listOf, appendAll}
 use Rattle.merging.specs.Merging.{sharedNode, collapsed}
 use Rattle.merging.specs.Plan.{dim, longBy, planned}
-use Rattle.merging.specs.Fit.{Plans}
-use Rattle.merging.proofs.Asked.{plans-good}
-use Rattle.merging.proofs.Members.{Collapses}
-use Rattle.merging.proofs.NodesAlone.{nodes-are}
-use Rattle.merging.proofs.Theorems.{links-are, counts-same}
+use Rattle.linking.specs.Fit.{Plans}
+use Rattle.merged.proofs.Asked.{plans-good}
+use Rattle.merged.proofs.Members.{Collapses}
+use Rattle.merged.proofs.NodesAlone.{nodes-are}
+use Rattle.merged.proofs.Theorems.{links-are, counts-same}
 use Rattle.collapsing.specs.Making.{State, state, stateAfter, membersNumber, groupNumber, collapseNumber, fits}
 use Rattle.collapsing.specs.Ready.{listsFit, linksFit, readyNumber}
 use Rattle.collapsing.specs.Ahead.{eventsBy}
@@ -35,14 +35,14 @@ use Rattle.collapsing.proofs.Foreseen.{events-are}
 use Rattle.collapsing.proofs.Before.{passed-members, passed-events, nodes-after}
 use Rattle.collapsing.proofs.Outcomes.{number-late, room-holds, fits-plan}
 
-first-pass : (n k : ℕ) → cond (not (eqb n 0)) n k ≡ 0 → (n ≡ 0) × (k ≡ 0)
+pub first-pass : (n k : ℕ) → cond (not (eqb n 0)) n k ≡ 0 → (n ≡ 0) × (k ≡ 0)
 first-pass n k z = by (eqb n 0) refl z
   where
     by : (b : Bool) → eqb n 0 ≡ b → cond (not b) n k ≡ 0 → (n ≡ 0) × (k ≡ 0)
     by true e q = (eqb-true n 0 e, q)
     by false e q = absurd (eqb-false n 0 e q)
 
-seven : (b : Bool) → _≡_ {A = ℕ} (cond (not b) 7 0) 0 → b ≡ true
+pub seven : (b : Bool) → _≡_ {A = ℕ} (cond (not b) 7 0) 0 → b ≡ true
 seven true e = refl
 seven false e = absurd (omega arith)
 

@@ -1,3 +1,4 @@
+pub mod After
 pub mod Apart
 pub mod Appending
 pub mod Before

@@ -14,12 +14,12 @@ use Rattle.handle.specs.Handle.{idOf}
 use Rattle.store.specs.Graph.{Node, Link, linkLayout, linksOf}
 use Rattle.store.specs.Views.{largest}
 use Rattle.split.specs.Split.{splitLinks}
-use Rattle.merging.specs.declared.links.Made.{Made}
-use Rattle.merging.specs.declared.links.Made.the-variants.{Count, Full}
+use Rattle.linking.specs.declared.Made.{Made}
+use Rattle.linking.specs.declared.Made.the-variants.{Count, Full}
 use Rattle.merging.specs.Plan.{longBy, freshAfter, prefixBy, aloneLinks, planned}
-use Rattle.merging.specs.Fit.{Makes, fitted}
-use Rattle.merging.proofs.Made.{counted, filled}
-use Rattle.merging.proofs.Growth.{split-more, later-all-more}
+use Rattle.linking.specs.Fit.{Makes, fitted}
+use Rattle.linking.proofs.Fitting.{counted, filled}
+use Rattle.linking.proofs.Growth.{split-more, later-all-more}
 use Rattle.collapsing.specs.Put.{Planned}
 
 module _ (count : ℕ) (ds : List Link) (room mid : List ℕ) (n : length ds ≡ count) (e : mid ≡ encode linkLayout ds ++ drop (3 * count) room) where

@@ -10,8 +10,8 @@ use Rattle.store.specs.Graph.{Node, Link, linksOf}
 use Rattle.store.specs.Views.{nodeNamed}
 use Rattle.formed.specs.WellFormed.{idsOnce}
 use Rattle.events.specs.Events.{Rules, appendAll}
-use Rattle.merging.specs.declared.links.Made.{Made}
-use Rattle.merging.specs.Fit.{fitted}
+use Rattle.linking.specs.declared.Made.{Made}
+use Rattle.linking.specs.Fit.{fitted}
 use Rattle.merging.specs.Plan.{mergedNodes, remark}
 use Rattle.collapsing.specs.Making.{State, state}
 use Rattle.collapsing.specs.Ahead.{eventsBy}

@@ -7,7 +7,7 @@ mod ready;
 mod room;
 
 use events::Used;
-use merging::links::Made;
+use linking::Made;
 use store::Counts;
 ghost use Prim.Native.Nat.{_+_, _*_, _≤_};
 ghost use mathlib.Core.Path.{_≡_};
@@ -22,7 +22,7 @@ ghost use Rattle.affix.specs.Prefix.{handlesOf};
 ghost use Rattle.events.specs.Events.{rulesOf, listOf, appendAll};
 ghost use Rattle.events.specs.WellFormed.{eventsFormed, keysOnce};
 ghost use Rattle.merging.specs.Plan.{dim, longBy, planned};
-ghost use Rattle.merging.specs.Fit.{Plans};
+ghost use Rattle.linking.specs.Fit.{Plans};
 ghost use Rattle.collapsing.specs.Ahead.{eventsBy};
 ghost use Rattle.collapsing.specs.Longer.{RoomFor, beginning};
 ghost use Rattle.collapsing.specs.Put.{Storable, stateBy, linkRoom};

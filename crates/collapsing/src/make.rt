@@ -3,7 +3,7 @@ use crate::Collapsed;
 use crate::longer;
 use events::Used;
 use handle::Handle;
-use merging::back;
+use merging::copies;
 use merging::nodes;
 use store::Counts;
 ghost use Prim.Native.Nat.{_+_, _*_, _≤_};
@@ -46,7 +46,7 @@ pub fn make(
     let x = run.x;
     let used = longer::append_events(nodes, node_count, rules, steps, u, members, p);
     let count = nodes::merge_nodes(nodes, node_count, members, p);
-    back::put_back(plan, links, link_count, n);
+    copies::put_back(plan, links, link_count, n);
     Collapsed {
         number: 0,
         shared: x.packed,

@@ -1,6 +1,5 @@
 // The links of a collapse, made in room of the code's own: whether they fit is known only when all are made.
-use merging::links;
-use merging::links::Made;
+use linking::Made;
 use store::Counts;
 ghost use Prim.Native.Nat.{_*_, _≤_};
 ghost use mathlib.Core.List.{map};
@@ -8,7 +7,7 @@ ghost use lib.ListN.{length};
 ghost use Rattle.store.specs.Graph.{nodesOf, linksOf};
 ghost use Rattle.affix.specs.Prefix.{handlesOf};
 ghost use Rattle.merging.specs.Plan.{dim, planned};
-ghost use Rattle.merging.specs.Fit.{Plans};
+ghost use Rattle.linking.specs.Fit.{Plans};
 ghost use Rattle.collapsing.specs.Put.{Planned};
 
 pub fn plan(
@@ -23,6 +22,6 @@ pub fn plan(
     requires { ⌜ Plans p (nodesOf (c .nodes) (now nodes)) (map (dim (nodesOf (c .nodes) (now nodes))) (linksOf (c .links) (now links))) (handlesOf (now members)) ⌝ }
     ensures { λ r. ⌜ Planned (now (room .entry)) (planned p (nodesOf (c .nodes) (now (nodes .entry))) (map (dim (nodesOf (c .nodes) (now (nodes .entry)))) (linksOf (c .links) (now (links .entry)))) (handlesOf (now (members .entry)))) r (now (room .exit)) ⌝ }
 {
-    links::dim_links(nodes, c.nodes, links, c.links, room);
-    links::plan_links(nodes, c.nodes, room, c.links, members, p)
+    merging::copies::dim_links(nodes, c.nodes, links, c.links, room);
+    linking::plan_links(nodes, c.nodes, room, c.links, members, p)
 }

@@ -68,7 +68,7 @@ says-must g protected ms k =
     (le-leb 1 (length (groupPrefix g ms)) (k .prefix))
 
 -- members as numbers, and back
-numbers-back : (ms : List Handle) → handlesOf (numbers ms) ≡ ms
+pub numbers-back : (ms : List Handle) → handlesOf (numbers ms) ≡ ms
 numbers-back [] = refl
 numbers-back (m ∷ ms) = ap (λ (t : List Handle). m ∷ t) (numbers-back ms)
 

@@ -2,3 +2,4 @@ pub mod Drive
 pub mod Outcome
 pub mod Scan
 pub mod Search
+pub mod Turn

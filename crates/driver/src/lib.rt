@@ -1,8 +1,10 @@
 // The driver: collapses one group after another until none is left.
+pub mod drive;
 pub mod scan;
 
 use events::Used;
 use store::Counts;
+ghost use mathlib.Core.Path.{_≡_};
 
 // 01's number, how many collapses were made, and what is in use after them.
 pub struct Driven {
@@ -10,4 +12,16 @@ pub struct Driven {
     pub made: u64,
     pub counts: Counts,
     pub used: Used,
+}
+
+// No collapse was made, and the counts are as they were.
+pub fn refuse(number: u64, c: Counts, u: Used) -> Driven
+    ensures { λ r. ⌜ r ≡ record { number = number; made = 0; counts = c; used = u } ⌝ }
+{
+    Driven {
+        number,
+        made: 0,
+        counts: c,
+        used: u,
+    }
 }

@@ -5,7 +5,6 @@ ghost use Prim.Native.Nat.{_*_, _≤_};
 ghost use mathlib.Core.Path.{_≡_};
 ghost use mathlib.Core.Bool.{true};
 ghost use mathlib.Core.List.{[], _∷_};
-ghost use lib.Dec.{eqb};
 ghost use lib.ListN.{length};
 ghost use Rattle.kit.specs.Loops.{all, any};
 ghost use Rattle.handle.specs.Handle.{maxId, isId, pack};
@@ -59,26 +58,13 @@ fn next_scan(nodes: &[u64], count: usize, above: u64) -> u64
     best
 }
 
-fn is_protected(protected: &[u64], id: u64) -> bool
-    ensures { λ r. ⌜ r ≡ any (eqb id) (now (protected .entry)) ⌝ }
-{
-    let mut i: usize = 0;
-    while i < protected.len() {
-        if id == protected[i] {
-            return true;
-        }
-        i += 1;
-    }
-    false
-}
-
 fn has_protected(protected: &[u64], members: &[u64]) -> bool
     ensures { λ r. ⌜ r ≡ any (isProtected (now (protected .entry))) (handlesOf (now (members .entry))) ⌝ }
 {
     let mut i: usize = 0;
     while i < members.len() {
         let h = Handle { packed: members[i] };
-        if is_protected(protected, h.id()) {
+        if protected::id_from(protected, 0, h.id()) {
             return true;
         }
         i += 1;

@@ -1,17 +1,2 @@
-pub mod Alone
-pub mod Asked
-pub mod Dim
-pub mod Formed
-pub mod Growth
-pub mod Kept
-pub mod Later
-pub mod Made
-pub mod Members
 pub mod NodeTurns
-pub mod NodesAlone
-pub mod Parts
-pub mod Passing
 pub mod Putting
-pub mod Rounds
-pub mod Theorems
-pub mod Worked

@@ -1,7 +1,8 @@
--- The links of a collapse, put back one after another.
+-- The links of a collapse, copied or put back one after another.
 use Prim.Native.Nat.{ℕ, suc, _+_, _*_, _≤_}
 use mathlib.Core.Path.{_≡_, refl, sym, ap, _∙_}
-use mathlib.Core.List.{List, [], _∷_, _++_, append-assoc, append-nil}
+use mathlib.Core.Bool.{cond}
+use mathlib.Core.List.{List, [], _∷_, _++_, map, append-assoc, append-nil}
 use native.Mathlib.Numerals.{add-one, add-two}
 use native.Mathlib.Omega.{arith}
 use lib.ListN.{length, drop, getD, set, length-append, take-append-drop}
@@ -9,8 +10,9 @@ use lib.Seq.{set-getD, getD-set-other}
 use Rattle.kit.specs.Layout.{encode}
 use Rattle.kit.proofs.Laws.{length-decode, encode-decode, decode-take, push, then-decode, then-drop, alike-further}
 use Rattle.handle.specs.declared.Edge.{Edge}
-use Rattle.store.specs.Graph.{Link, link, ends, linkLayout, linksOf}
-use Rattle.merging.specs.Plan.{remark}
+use Rattle.store.specs.Graph.{Node, Link, link, ends, linkLayout, linksOf}
+use Rattle.store.specs.Views.{liveLink}
+use Rattle.merging.specs.Plan.{dim, remark}
 
 -- at the head of a loop that puts links one after another: those before i and what is left are all, and what stands from
 -- there on is as it was
@@ -36,6 +38,10 @@ pub all-put : {l₀ l : List ℕ} {i n : ℕ} {rs all : List Link} → Putting l
 all-put {l₀} {l} {i} {n} {rs} {all} p k e room =
     let q : linksOf i l ≡ all = sym (append-nil (linksOf i l)) ∙ sym (ap (λ (ts : List Link). linksOf i l ++ ts) e) ∙ p .sofar in
     sym (encode-decode linkLayout i l (omega (arith, p .size))) ∙ rw (q, p .rest, k)
+
+-- a copy, marked where it is not live
+pub dim-new : (nodes : List Node) {r : Link} {rs ts : List Link} (mark : ℕ) → rs ≡ r ∷ ts → mark ≡ cond (liveLink nodes r) 0 1 → map (dim nodes) rs ≡ link (ends r) mark ∷ map (dim nodes) ts
+dim-new nodes mark e f = rw (e, f)
 
 -- new ends, stored over a link whose mark w stays
 pub ends-stored : (i : ℕ) (l : List ℕ) (e : Edge) (w : ℕ) → w ≡ getD l (3 * i + 2) 0 → 3 * (i + 1) ≤ length l → set (set l (3 * i) (e .from .packed)) (3 * i + 1) (e .to .packed) ≡ encode linkLayout (linksOf i l ++ (link e w ∷ [])) ++ drop (3 * (i + 1)) l

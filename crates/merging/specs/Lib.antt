@@ -1,3 +1,2 @@
-pub mod Fit
 pub mod Merging
 pub mod Plan

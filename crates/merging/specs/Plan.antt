@@ -7,13 +7,12 @@ use lib.Dec.{eqb, ltb}
 use Rattle.kit.specs.Loops.{keep, lines}
 use Rattle.handle.specs.declared.Handle.{Handle}
 use Rattle.handle.specs.Handle.{idOf, pack}
-use Rattle.handle.specs.Edge.{edge}
 use Rattle.store.specs.Graph.{Node, Link, link, ends}
 use Rattle.store.specs.Views.{nodeNamed, largest, liveLink}
 use Rattle.formed.specs.WellFormed.{unmarkedLink}
 use Rattle.sides.specs.Sides.{rising, rightEnds}
 use Rattle.split.specs.Split.{splitNodes, splitLinks}
-use Rattle.merging.specs.Merging.{isForward, addLink, addLinks, readAs, markNode}
+use Rattle.merging.specs.Merging.{isForward, addLinks, readAs, markNode}
 
 -- marked where it is not live
 abbrev pub dim : List Node → Link → Link

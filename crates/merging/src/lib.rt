@@ -1,4 +1,3 @@
 // A collapse, in the arrays that hold the graph. Who calls these has tested what they require.
-pub mod back;
-pub mod links;
+pub mod copies;
 pub mod nodes;

@@ -14,9 +14,12 @@ use Rattle.kit.proofs.Bools.{never, and-true-l, and-true-r, and-both}
 use Rattle.kit.proofs.Meaning.{all-append}
 use Rattle.handle.specs.declared.Handle.{Handle}
 use Rattle.store.specs.Graph.{Link, Graph}
+use Rattle.store.specs.Order.{writtenOrder}
 use Rattle.events.specs.Events.{Rule, Step, Rules, walkOf}
-use Rattle.verdict.specs.declared.Verdict.{Verdict}
-use Rattle.verdict.specs.Conditions.{verdict, orThen, unless, stepsFault, ruleFault, rulesFault, nodesFault, oldNodes, linksFault, writtenOrder, protectedFault, protectedIds, conditionsFault}
+use Rattle.scanning.specs.declared.Verdict.{Verdict}
+use Rattle.scanning.specs.Rules.{verdict, orThen, unless, stepsFault, ruleFault, rulesFault}
+use Rattle.keeping.specs.Kept.{nodesFault, oldNodes, linksFault}
+use Rattle.verdict.specs.Conditions.{protectedFault, protectedIds, conditionsFault}
 use Rattle.promises.specs.Tests.{Test, test, walkTests, ruleTests, rulesTests, nodesTests, linksTests, protectedTests, allTests, testAt, FirstToFail}
 
 abbrev pub firstFault : List Test → Verdict

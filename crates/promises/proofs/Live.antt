@@ -17,7 +17,7 @@ use Rattle.store.specs.Views.{named, unmarkedNode, stored, liveHere, liveNode, 
 use Rattle.sides.proofs.Sides.{linked-turned}
 use Rattle.spelling.specs.Spelling.{turnWalk, gapAfter}
 use Rattle.spelling.proofs.Walks.{turn-turn}
-use Rattle.verdict.specs.Conditions.{lastOf, firstOf}
+use Rattle.keeping.specs.Kept.{lastOf, firstOf}
 use Rattle.promises.specs.Walks.{Walk, liveWalk}
 
 last-snoc : (a : List Handle) (x : Handle) → lastOf (a ++ (x ∷ [])) ≡ x

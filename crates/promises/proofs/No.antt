@@ -28,7 +28,9 @@ use Rattle.events.specs.Events.{Rule, Step, Rules, walkOf, keyed}
 use Rattle.events.specs.WellFormed.{keysOnce}
 use Rattle.spelling.specs.Spelling.{spellWalk}
 use Rattle.rewriting.specs.Rewriting.{ruled, ruleUnder, nodesOn, imageOf, transformNode, transformWalk}
-use Rattle.verdict.specs.Conditions.{lastOf, firstOf, isOldKey, conditionsFault}
+use Rattle.scanning.specs.Rules.{isOldKey}
+use Rattle.keeping.specs.Kept.{lastOf, firstOf}
+use Rattle.verdict.specs.Conditions.{conditionsFault}
 use Rattle.promises.specs.Conditions.{stepAt, StepHolds, RuleHolds, NodeHolds, Conditions}
 use Rattle.promises.specs.Walks.{Walk, liveWalk, rewritesRightly, Formed, TrueTo, Wrong}
 use Rattle.promises.proofs.Live.{live-stored, live-says, live-mem, join-live}

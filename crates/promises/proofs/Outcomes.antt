@@ -24,11 +24,12 @@ use Rattle.events.specs.WellFormed.{roomForRules, goodTable, tableFormed, keysO
 use Rattle.spelling.specs.Spelling.{spellWalk}
 use Rattle.rewriting.specs.Rewriting.{oldNumber, transformWalk}
 use Rattle.rewriting.proofs.Images.{length-numbers}
-use Rattle.verdict.specs.declared.Verdict.{Verdict}
-use Rattle.verdict.specs.Conditions.{verdict, conditionsFault}
-use Rattle.gfaffix.specs.CheckTransform.{Lent, graphIn, inputNumber, checkOutcome}
-use Rattle.gfaffix.specs.SpellWalk as s
-use Rattle.gfaffix.specs.TransformWalk as t
+use Rattle.scanning.specs.declared.Verdict.{Verdict}
+use Rattle.scanning.specs.Rules.{verdict}
+use Rattle.verdict.specs.Conditions.{conditionsFault}
+use Rattle.checking.specs.CheckTransform.{Lent, graphIn, inputNumber, checkOutcome}
+use Rattle.walking.specs.SpellWalk as s
+use Rattle.walking.specs.TransformWalk as t
 use Rattle.promises.specs.Walks.{Walk, liveWalk, rewritesRightly, Formed, TrueTo}
 use Rattle.promises.specs.Outcomes.{spelled, rewritten, lettersIn, walkIn, roomOr7, Rewrites, Miswrites}
 use Rattle.promises.proofs.Live.{live-is-walk}

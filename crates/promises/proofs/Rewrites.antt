@@ -34,7 +34,8 @@ use Rattle.spelling.specs.Spelling.{turnWalk, allStored, gapAfter, spellWalk}
 use Rattle.spelling.proofs.Walks.{spell-flip, spell-turn}
 use Rattle.rewriting.specs.Rewriting.{ruled, ruleUnder, nodesOn, imageOf, transformNode, transformWalk}
 use Rattle.rewriting.proofs.Walks.{transform-flip}
-use Rattle.verdict.specs.Conditions.{lastOf, firstOf, conditionsFault}
+use Rattle.keeping.specs.Kept.{lastOf, firstOf}
+use Rattle.verdict.specs.Conditions.{conditionsFault}
 use Rattle.promises.specs.Conditions.{StepHolds, NodeHolds, Conditions}
 use Rattle.promises.specs.Walks.{Walk, liveWalk, rewritesRightly, Formed}
 use Rattle.promises.proofs.Live.{live-join, first-append, last-turn, first-turn, live-turn, says-live}

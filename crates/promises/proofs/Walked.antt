@@ -14,7 +14,7 @@ use Rattle.handle.specs.Edge.{edge}
 use Rattle.store.specs.Graph.{Graph}
 use Rattle.store.specs.Views.{lenOf, liveLinked}
 use Rattle.events.specs.Events.{Step}
-use Rattle.verdict.specs.Conditions.{stepLives, lengthTrue, follows}
+use Rattle.scanning.specs.Rules.{stepLives, lengthTrue, follows}
 use Rattle.promises.specs.Tests.{walkTests}
 use Rattle.promises.specs.Conditions.{stepAt, StepHolds}
 use Rattle.promises.proofs.First.{passes}

@@ -8,7 +8,8 @@ use Rattle.handle.specs.Handle.{pack, flip, before}
 use Rattle.handle.specs.Edge.{edge, written, edgeBefore}
 use Rattle.store.specs.Graph.{link}
 use Rattle.events.specs.Events.{Rules, rule}
-use Rattle.verdict.proofs.Worked.{old, new, steps, table, both}
+use Rattle.scanning.proofs.Worked.{old, new, steps, both}
+use Rattle.verdict.proofs.Worked.{table}
 use Rattle.promises.specs.Walks.{liveWalk, rewritesRightly, Formed}
 
 abbrev c8 : Rules

@@ -2,7 +2,7 @@
 use Prim.Native.Nat.{ℕ, _+_}
 use mathlib.Core.Path.{_≡_, refl, sym, ap, ap₂, _∙_, subst}
 use mathlib.Core.Logic.{_↔_, ⊎-elim}
-use mathlib.Core.Bool.{Bool, true, false, cond, not, _&&_, _||_, and-assoc}
+use mathlib.Core.Bool.{Bool, true, false, not, _&&_, _||_, and-assoc}
 use mathlib.Core.List.{List, [], _∷_, _++_, map, append-assoc, append-nil, List·Memᴰ, List·Memᴰ·head, List·Memᴰ·tail, List·Memᴰ·not-nil, List·Memᴰ·cases-cons}
 use native.Mathlib.Omega.{arith}
 use borrow.Author.Tests.{eq-eqb, eqb-true, ne-eqb, not-true}
@@ -13,15 +13,18 @@ use Rattle.kit.proofs.Meaning.{all-append, any-append, all-map, all-mem, all-of
 use Rattle.letters.specs.Sequences.{sameSpelling}
 use Rattle.handle.specs.declared.Handle.{Handle}
 use Rattle.handle.specs.Handle.{pack}
-use Rattle.handle.specs.Edge.{edgeBefore}
 use Rattle.handle.proofs.Handles.{id-pack}
-use Rattle.store.specs.Graph.{Node, Link, Graph, ends}
+use Rattle.store.specs.Graph.{Node, Link, Graph}
+use Rattle.store.specs.Order.{writtenOrder}
 use Rattle.store.specs.Views.{stored, lenOf, liveNode, spell}
+use Rattle.store.proofs.Order.{order-all}
 use Rattle.sides.proofs.Rising.{all-rising}
 use Rattle.events.specs.Events.{Rule, Step, Rules, walkOf}
 use Rattle.spelling.specs.Spelling.{spellWalk}
 use Rattle.rewriting.specs.Rewriting.{ruled, nodesOn}
-use Rattle.verdict.specs.Conditions.{hasSteps, lengthsSum, spellsKey, nodeKept, oldNodes, linkKept, insertLink, writtenOrder, protectedIds, noRepeat, conditionsFault}
+use Rattle.scanning.specs.Rules.{hasSteps, lengthsSum, spellsKey}
+use Rattle.keeping.specs.Kept.{nodeKept, oldNodes, linkKept}
+use Rattle.verdict.specs.Conditions.{protectedIds, noRepeat, conditionsFault}
 use Rattle.promises.specs.Tests.{walkTests, ruleTests, rulesTests, nodesTests, linksTests, protectedTests, allTests}
 use Rattle.promises.specs.Conditions.{RuleHolds, NodeHolds, Conditions}
 use Rattle.promises.proofs.First.{passes, gives-all, first-none}
@@ -126,24 +129,6 @@ module _ (old new : Graph) (t : Rules) where
   links-are i [] = refl
   links-are i (r ∷ rs) = ap (λ (b : Bool). linkKept old new t r && b) (links-are (i + 1) rs)
 
--- the order does not matter
-swap : (a b c : Bool) → (b && (a && c)) ≡ (a && (b && c))
-swap true b c = refl
-swap false true c = refl
-swap false false c = refl
-
-all-insert : (p : Link → Bool) (x : Link) (rs : List Link) → all p (insertLink x rs) ≡ (p x && all p rs)
-all-insert p x [] = refl
-all-insert p x (r ∷ rs) = by (edgeBefore (ends x) (ends r)) (all-insert p x rs)
-  where
-    by : (b : Bool) → all p (insertLink x rs) ≡ (p x && all p rs) → all p (cond b (x ∷ r ∷ rs) (r ∷ insertLink x rs)) ≡ (p x && (p r && all p rs))
-    by true e = refl
-    by false e = ap (λ (c : Bool). p r && c) e ∙ swap (p x) (p r) (all p rs)
-
-all-written : (p : Link → Bool) (rs : List Link) → all p (writtenOrder rs) ≡ all p rs
-all-written p [] = refl
-all-written p (r ∷ rs) = all-insert p r (writtenOrder rs) ∙ ap (λ (b : Bool). p r && b) (all-written p rs)
-
 -- 7: walks one after another are one list
 repeat-append : (seen xs ys : List ℕ) → noRepeat seen (xs ++ ys) ≡ (noRepeat seen xs && noRepeat (seen ++ xs) ys)
 repeat-append seen [] ys = ap (λ (l : List ℕ). noRepeat l ys) (sym (append-nil seen))
@@ -215,7 +200,7 @@ module _ (old new : Graph) (t : Rules) (protected : List ℕ) where
       (all-append passes (nodesTests old new t (oldNodes old)) _
       ∙ ap₂ _&&_ (all-nodes old new t)
       (all-append passes (linksTests old new t 0 (writtenOrder (old .links))) _
-      ∙ ap₂ _&&_ (links-are old new t 0 (writtenOrder (old .links)) ∙ all-written (linkKept old new t) (old .links))
+      ∙ ap₂ _&&_ (links-are old new t 0 (writtenOrder (old .links)) ∙ order-all (linkKept old new t) (old .links))
       (protected-are old t 0 [] protected ∙ repeat-none (lines (protectedIds old t) protected))))
 
   tests-say : all passes (allTests old new t protected) ≡ true → Conditions old new t protected

@@ -14,7 +14,8 @@ use Rattle.store.specs.Views.{stored, lenOf, liveNode, spell, liveLinked}
 use Rattle.events.specs.Events.{Rule, Step, Rules, step, walkOf}
 use Rattle.spelling.specs.Spelling.{spellWalk}
 use Rattle.rewriting.specs.Rewriting.{ruled, nodesOn, transformNode}
-use Rattle.verdict.specs.Conditions.{lastOf, firstOf, protectedIds}
+use Rattle.keeping.specs.Kept.{lastOf, firstOf}
+use Rattle.verdict.specs.Conditions.{protectedIds}
 
 abbrev pub stepAt : List Step → ℕ → Step
 stepAt ss j = getD ss j (step 0 0)

@@ -9,9 +9,9 @@ use Rattle.letters.specs.Sequences.{sameSpelling}
 use Rattle.affix.specs.Prefix.{handlesOf}
 use Rattle.events.specs.declared.Used.{Used}
 use Rattle.spelling.specs.Spelling.{spellWalk}
-use Rattle.gfaffix.specs.CheckTransform.{Lent, graphIn}
-use Rattle.gfaffix.specs.SpellWalk as s
-use Rattle.gfaffix.specs.TransformWalk as t
+use Rattle.checking.specs.CheckTransform.{Lent, graphIn}
+use Rattle.walking.specs.SpellWalk as s
+use Rattle.walking.specs.TransformWalk as t
 use Rattle.promises.specs.Walks.{Walk, liveWalk}
 
 abbrev pub spelled : Lent → List ℕ → List ℕ → s.Outcome

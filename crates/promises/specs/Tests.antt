@@ -7,9 +7,12 @@ use lib.ListN.{length, getD}
 use Rattle.handle.specs.declared.Handle.{Handle}
 use Rattle.handle.specs.Handle.{idOf}
 use Rattle.store.specs.Graph.{Link, Graph}
+use Rattle.store.specs.Order.{writtenOrder}
 use Rattle.events.specs.Events.{Rule, Step, Rules, walkOf}
-use Rattle.verdict.specs.declared.Verdict.{Verdict}
-use Rattle.verdict.specs.Conditions.{verdict, hasSteps, stepLives, lengthTrue, follows, lengthsSum, spellsKey, nodeKept, oldNodes, linkKept, writtenOrder, protectedIds, noRepeat}
+use Rattle.scanning.specs.declared.Verdict.{Verdict}
+use Rattle.scanning.specs.Rules.{verdict, hasSteps, stepLives, lengthTrue, follows, lengthsSum, spellsKey}
+use Rattle.keeping.specs.Kept.{nodeKept, oldNodes, linkKept}
+use Rattle.verdict.specs.Conditions.{protectedIds, noRepeat}
 
 pub record Test : Type 0 where
   pub passes : Bool

@@ -17,7 +17,7 @@ use Rattle.events.specs.Events.{Rule, Step, Rules, walkOf}
 use Rattle.events.specs.WellFormed.{goodTable, keysOnce}
 use Rattle.spelling.specs.Spelling.{allStored, firstGap, spellWalk}
 use Rattle.rewriting.specs.Rewriting.{transformWalk}
-use Rattle.verdict.specs.Conditions.{isOldKey}
+use Rattle.scanning.specs.Rules.{isOldKey}
 
 -- none of 6 and 23 is due for it
 pub record Walk (g : Graph) (hs : List Handle) : Type 0 where

@@ -84,7 +84,7 @@ fn cut_node(nodes: &mut [u64], count: usize, at: usize, id: u64, k: u64)
 }
 
 // One node more, at the end.
-fn push_node(nodes: &mut [u64], count: usize, id: u64, start: u64, len: u64, mark: u64)
+pub fn push_node(nodes: &mut [u64], count: usize, id: u64, start: u64, len: u64, mark: u64)
     requires { ⌜ 4 * (count + 1) ≤ length (now nodes) ⌝ }
     ensures { λ _. ⌜ now (nodes .exit) ≡ encode nodeLayout (nodesOf count (now (nodes .entry)) ++ (node id start len mark ∷ [])) ++ drop (4 * (count + 1)) (now (nodes .entry)) ⌝ }
 {

@@ -1,3 +1,4 @@
 pub mod Fields
 pub mod Lookups
+pub mod Order
 pub mod Worked

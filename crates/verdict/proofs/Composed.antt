@@ -7,14 +7,17 @@ use borrow.Author.Tests.{eq-eqb, ne-eqb}
 use Rattle.kit.specs.Loops.{all}
 use Rattle.store.specs.declared.Counts.{Counts}
 use Rattle.store.specs.Graph.{Graph, linksOf, graphOf}
+use Rattle.store.specs.Order.{writtenOrder}
 use Rattle.events.specs.declared.Used.{Used}
 use Rattle.events.specs.Events.{Rules, rulesOf, stepsOf, listOf}
-use Rattle.verdict.specs.declared.Verdict.{Verdict}
-use Rattle.verdict.specs.Conditions.{orThen, hasSteps, rulesFault, oldNodes, nodesFault, writtenOrder, linksFault, protectedFault, conditionsFault}
-use Rattle.verdict.proofs.LinksKept.{scan-steps, links-bare}
-use Rattle.verdict.proofs.NodesKept.{nodes-bare}
+use Rattle.scanning.specs.declared.Verdict.{Verdict}
+use Rattle.scanning.specs.Rules.{orThen, hasSteps, rulesFault}
+use Rattle.scanning.proofs.RuleTurns.{rules-old, scan-steps}
+use Rattle.keeping.specs.Kept.{oldNodes, nodesFault, linksFault}
+use Rattle.verdict.specs.Conditions.{protectedFault, conditionsFault}
+use Rattle.keeping.proofs.LinksKept.{links-bare}
+use Rattle.keeping.proofs.NodesKept.{nodes-bare}
 use Rattle.verdict.proofs.Protected.{protected-bare}
-use Rattle.verdict.proofs.RuleTurns.{rules-old}
 
 -- a fault is the answer, none leaves it to what follows
 module _ (v w x : Verdict) (e : v ≡ w) where

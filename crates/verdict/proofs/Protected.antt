@@ -21,9 +21,10 @@ use Rattle.events.specs.Events.{Rule, Step, Rules, rule, keyed, rulesOf, stepsO
 use Rattle.events.specs.WellFormed.{tableFormed}
 use Rattle.rewriting.specs.Rewriting.{ruled, ruleUnder, nodesOn}
 use Rattle.rewriting.proofs.Tables.{steps-inside, length-on, on-at}
-use Rattle.verdict.specs.declared.Verdict.{Verdict}
+use Rattle.scanning.specs.declared.Verdict.{Verdict}
 use Rattle.verdict.specs.declared.repeats.Walk.{Walk}
-use Rattle.verdict.specs.Conditions.{verdict, orThen, unless, protectedIds, noRepeat, protectedFault}
+use Rattle.scanning.specs.Rules.{verdict, orThen, unless}
+use Rattle.verdict.specs.Conditions.{protectedIds, noRepeat, protectedFault}
 use Rattle.verdict.specs.Search.{walkAt}
 
 map-take : {A B : Type 0} (f : A → B) (n : ℕ) (l : List A) → take n (map f l) ≡ map f (take n l)

@@ -1,5 +1,6 @@
 // The checker: the eight conditions.
 use events::Used;
+use scanning::Verdict;
 use store::Counts;
 ghost use mathlib.Core.Path.{_≡_};
 ghost use mathlib.Core.Bool.{true};
@@ -9,16 +10,7 @@ ghost use Rattle.events.specs.Events.{listOf};
 ghost use Rattle.events.specs.WellFormed.{tableFormed};
 ghost use Rattle.verdict.specs.Conditions.{conditionsFault};
 
-pub mod kept;
 pub mod repeats;
-pub mod rules;
-
-// 01's number, and two places.
-pub struct Verdict {
-    pub number: u64,
-    pub first: u64,
-    pub second: u64,
-}
 
 // 1 to 7. The order of the tests is the order of the numbers, so the first fault is the answer.
 pub fn conditions(
@@ -38,7 +30,7 @@ pub fn conditions(
     requires { ⌜ (wellFormed (now «old_nodes») (now «old_text») (now «old_links») c ≡ true) × (wellFormed (now nodes) (now text) (now links) d ≡ true) × (tableFormed (now table) (now steps) u ≡ true) ⌝ }
     ensures { λ r. ⌜ r ≡ conditionsFault (graphOf (now («old_nodes» .entry)) (now («old_text» .entry)) (now («old_links» .entry)) c) (graphOf (now (nodes .entry)) (now (text .entry)) (now (links .entry)) d) (listOf (now (table .entry)) (now (steps .entry)) u) (now (protected .entry)) ⌝ }
 {
-    let scanned = rules::scan_rules(
+    let scanned = scanning::scan_rules(
         old_nodes,
         old_text,
         c,
@@ -53,11 +45,11 @@ pub fn conditions(
     if scanned.number != 0 {
         return scanned;
     }
-    let lost = kept::nodes_fault(old_nodes, old_text, c, nodes, text, d, table, u);
+    let lost = keeping::nodes_fault(old_nodes, old_text, c, nodes, text, d, table, u);
     if lost.number != 0 {
         return lost;
     }
-    let cut = kept::links_fault(old_nodes, old_links, c, nodes, links, d, table, steps, u);
+    let cut = keeping::links_fault(old_nodes, old_links, c, nodes, links, d, table, steps, u);
     if cut.number != 0 {
         return cut;
     }

@@ -1,9 +1,9 @@
 // Whether a new node stands twice in the walks of protected nodes: 28. No memory is lent for what was met, so each step
 // is looked for in the walks before it.
-use crate::Verdict;
 use events::Used;
 use handle::Handle;
 use kit::Found;
+use scanning::Verdict;
 use store::Counts;
 ghost use Prim.Native.Nat.{_+_, _*_, _≤_};
 ghost use mathlib.Core.Path.{_≡_};

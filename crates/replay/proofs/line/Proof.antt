@@ -59,7 +59,7 @@ slice-reshare-prefix-answer : tie.Need-slice-reshare-prefix-answer
 slice-reshare-prefix-answer c = search needs
 
 slice-aggregate-answer-2 : tie.Need-slice-aggregate-answer-2
-slice-aggregate-answer-2 c = let w = c .before .before .before .before .before .before .before .before .before .before .before .before .numbers in sym (length-take-le (w .result .count) (w .last .1 .1 .0) (w .ensures))
+slice-aggregate-answer-2 c = let w = c .before .before .before .before .before .before .before .before .before .before .before .before .numbers in sym (length-take-le (w .result .count) (w .last .1 .1 .0) (w .ensures .0))
 
 answer-requires : tie.Need-answer-requires
 answer-requires c κs = c .before .before .before .before .before .before .before .before .before .before .before .before .before .before .before .before .before .before .before .before .before .before .before .before .before .before .before .before .before .before .before .pre

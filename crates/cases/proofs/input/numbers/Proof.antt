@@ -1,5 +1,7 @@
 use Prim.Native.Nat.{_-_, _≤_}
-use mathlib.Core.Path.{_≡_}
+use mathlib.Core.Path.{_≡_, sym, _∙_}
+use native.Mathlib.Omega.{arith}
+use Rattle.kit.proofs.Bools.{never}
 use borrow.Author.Needs.{needs}
 use lib.ListN.{length}
 use Rattle.cases.proofs.input.numbers.Statement.{statement}
@@ -24,7 +26,7 @@ same-length-2 : tie.Need-same-length-2 Inv-loop μ-loop
 same-length-2 c = search needs
 
 returns : tie.Need-returns Inv-loop μ-loop
-returns c = search needs
+returns c = (omega arith, λ e. sym (c .before .line-ends .ensures) ∙ c .if1 .taken)
 
 sub-element : tie.Need-sub-element Inv-loop μ-loop
 sub-element c = search needs
@@ -42,7 +44,7 @@ same-length-4 : tie.Need-same-length-4 Inv-loop μ-loop
 same-length-4 c = search needs
 
 returns-2 : tie.Need-returns-2 Inv-loop μ-loop
-returns-2 c = search needs
+returns-2 c = (omega arith, λ e. never (sym e ∙ c .bad .ensures .0))
 
 add-i : tie.Need-add-i Inv-loop μ-loop
 add-i c = search needs
@@ -63,7 +65,7 @@ same-length-6 : tie.Need-same-length-6 Inv-loop μ-loop
 same-length-6 c = search needs
 
 returns-3 : tie.Need-returns-3 Inv-loop μ-loop
-returns-3 c = search needs
+returns-3 c = (omega arith, λ e. never (sym e ∙ c .bad2 .ensures .0))
 
 pub numbers-spec : {M : Type 1} → statement M
 numbers-spec =

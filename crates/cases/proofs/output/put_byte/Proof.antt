@@ -17,7 +17,7 @@ same-length : tie.Need-same-length
 same-length c = search needs
 
 returns : tie.Need-returns
-returns c = simp length-set (omega arith)
+returns c = record { inside = simp length-set (omega arith); enough = simp length-set (omega arith) }
 
 pub put-byte-spec : {M : Type 1} → statement M
 put-byte-spec = tie.close (tie.spec room-requires slice-write-out add-result same-length returns)

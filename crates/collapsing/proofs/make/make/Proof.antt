@@ -15,7 +15,7 @@ use Rattle.store.specs.Views.{stored, liveNode}
 use Rattle.affix.specs.Prefix.{handlesOf, membersLive}
 use Rattle.affix.proofs.Runs.{left-handle}
 use Rattle.events.specs.Events.{listOf}
-use Rattle.merging.proofs.Formed.{live-stored}
+use Rattle.merged.proofs.Formed.{live-stored}
 use Rattle.collapsing.specs.declared.longer.Run.{Run}
 use Rattle.collapsing.specs.Longer.{beginning}
 use Rattle.collapsing.specs.Put.{Storable, stateBy}

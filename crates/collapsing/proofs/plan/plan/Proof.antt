@@ -8,7 +8,7 @@ use Rattle.kit.proofs.Laws.{length-decode}
 use Rattle.store.specs.Graph.{Node, Link, linkLayout, nodesOf, linksOf}
 use Rattle.affix.specs.Prefix.{handlesOf}
 use Rattle.merging.specs.Plan.{dim, planned}
-use Rattle.merging.specs.Fit.{Plans}
+use Rattle.linking.specs.Fit.{Plans}
 use Rattle.collapsing.proofs.Planning.{copied, size, planned-in}
 use Rattle.collapsing.proofs.plan.plan.Statement.{statement}
 use Rattle.collapsing.proofs.plan.plan.Tie as tie

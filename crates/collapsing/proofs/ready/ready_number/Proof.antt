@@ -12,7 +12,7 @@ use Rattle.formed.proofs.Says.{Room, formed-room}
 use Rattle.affix.specs.Prefix.{handlesOf}
 use Rattle.events.specs.Events.{Rules, ruleLayout, stepLayout, listOf, appendAll}
 use Rattle.events.proofs.Says.{RuleRoom, table-room}
-use Rattle.merging.proofs.Members.{Collapses}
+use Rattle.merged.proofs.Members.{Collapses}
 use Rattle.collapsing.specs.Making.{Room as Lengths, state, membersNumber, listNumber}
 use Rattle.collapsing.specs.Ahead.{eventsBy}
 use Rattle.collapsing.specs.Outcome.{lent, roomOf}

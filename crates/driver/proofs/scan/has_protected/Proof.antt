@@ -22,17 +22,17 @@ abbrev μ-loop : tie.MeasureT-loop
 loop-holds : tie.Need-loop-holds Inv-loop μ-loop
 loop-holds c = search needs
 
-mul-is-protected : tie.Need-mul-is-protected Inv-loop μ-loop
-mul-is-protected c = search needs
+mul-id-from : tie.Need-mul-id-from Inv-loop μ-loop
+mul-id-from c = search needs
 
-shared-slice-read-is-protected : tie.Need-shared-slice-read-is-protected Inv-loop μ-loop
-shared-slice-read-is-protected c = search needs
+shared-slice-read-id-from : tie.Need-shared-slice-read-id-from Inv-loop μ-loop
+shared-slice-read-id-from c = search needs
 
 id-requires : tie.Need-id-requires Inv-loop μ-loop
 id-requires c κs = search needs
 
-is-protected-requires : tie.Need-is-protected-requires Inv-loop μ-loop
-is-protected-requires c κs = search needs
+id-from-requires : tie.Need-id-from-requires Inv-loop μ-loop
+id-from-requires c κs = search needs
 
 returns : tie.Need-returns Inv-loop μ-loop
 returns c =
@@ -41,7 +41,7 @@ returns c =
     let i = at .loop .i in
     let among : ℕ → Bool = λ k. any (eqb k) (a .protected .now) in
     let q = c .before in
-    sym (any-hit (isProtected (a .protected .now)) (left-handle (a .members .now) i (omega arith)) (ap among (sym (q .before .id .ensures)) ∙ sym (q .is-protected .ensures) ∙ c .if1 .taken)) ∙ at .loop .inv .1
+    sym (any-hit (isProtected (a .protected .now)) (left-handle (a .members .now) i (omega arith)) (ap among (sym (q .before .id .ensures)) ∙ sym (q .id-from .ensures) ∙ c .if1 .taken)) ∙ at .loop .inv .1
 
 add-i : tie.Need-add-i Inv-loop μ-loop
 add-i c = search needs
@@ -56,7 +56,7 @@ loop-again c =
     let i = at .loop .i in
     let among : ℕ → Bool = λ k. any (eqb k) (a .protected .now) in
     let q = c .before in
-    (omega arith, sym (any-miss (isProtected (a .protected .now)) (left-handle (a .members .now) i (omega arith)) (ap among (sym (q .before .id .ensures)) ∙ sym (q .is-protected .ensures) ∙ c .if1 .left)) ∙ at .loop .inv .1)
+    (omega arith, sym (any-miss (isProtected (a .protected .now)) (left-handle (a .members .now) i (omega arith)) (ap among (sym (q .before .id .ensures)) ∙ sym (q .id-from .ensures) ∙ c .if1 .left)) ∙ at .loop .inv .1)
 
 returns-2 : tie.Need-returns-2 Inv-loop μ-loop
 returns-2 c =
@@ -71,10 +71,10 @@ has-protected-spec =
     Inv-loop
     μ-loop
     loop-holds
-    mul-is-protected
-    shared-slice-read-is-protected
+    mul-id-from
+    shared-slice-read-id-from
     id-requires
-    is-protected-requires
+    id-from-requires
     returns
     add-i
     loop-less

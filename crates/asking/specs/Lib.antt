@@ -1,0 +1,3 @@
+pub mod EnumerateBranch
+pub mod GetSharedPrefix
+pub mod LiveLetters

@@ -1,0 +1,4 @@
+pub mod Copying
+pub mod Items
+pub mod Tests
+pub mod Words

@@ -1,0 +1,2 @@
+// The public checker. `gfaffix` hands it out.
+pub mod check_transform;

@@ -1,0 +1,2 @@
+pub mod Collapse
+pub mod CollapseAll

@@ -1,0 +1,5 @@
+pub mod Accepted
+pub mod Gfa1
+pub mod Holds
+pub mod Narrowings
+pub mod Said

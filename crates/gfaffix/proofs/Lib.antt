@@ -1,3 +1,0 @@
-pub mod Checked
-pub mod EnumerateBranch
-pub mod Walked

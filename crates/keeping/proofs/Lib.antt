@@ -1,0 +1,2 @@
+pub mod LinksKept
+pub mod NodesKept

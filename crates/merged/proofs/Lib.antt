@@ -1,0 +1,11 @@
+pub mod Alone
+pub mod Asked
+pub mod Dim
+pub mod Formed
+pub mod Kept
+pub mod Later
+pub mod Members
+pub mod NodesAlone
+pub mod Parts
+pub mod Theorems
+pub mod Worked

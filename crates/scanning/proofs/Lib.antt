@@ -1,0 +1,2 @@
+pub mod RuleTurns
+pub mod Worked

@@ -1,0 +1,4 @@
+pub mod InOrder
+pub mod Letters
+pub mod Past
+pub mod Worked

@@ -1,0 +1,1 @@
+// Collapses one after another: statements in specs/, theorems in proofs/, no code.

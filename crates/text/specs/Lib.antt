@@ -1,0 +1,9 @@
+pub mod Bytes
+pub mod Fields
+pub mod Header
+pub mod Names
+pub mod Pieces
+pub mod Refusal
+pub mod Search
+pub mod StepEnd
+pub mod Steps

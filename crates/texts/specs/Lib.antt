@@ -1,0 +1,4 @@
+pub mod ParseAndTransformPaths
+pub mod ParseHeader
+pub mod PrintActiveSubgraph
+pub mod ReadGfa

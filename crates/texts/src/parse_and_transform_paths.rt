@@ -1,0 +1,27 @@
+// The P and W lines of a text, with their walks rewritten by a table.
+use events::Used;
+use store::Counts;
+use writing::Written;
+ghost use mathlib.Core.Path.{_≡_};
+ghost use Rattle.writing.specs.Outcome.{outcome};
+ghost use Rattle.texts.specs.ParseAndTransformPaths.{pathsOutcome};
+
+pub fn parse_and_transform_paths(
+    text: &[u8],
+    nodes: &[u64],
+    letters: &[u8],
+    links: &[u64],
+    c: Counts,
+    rules: &[u64],
+    steps: &[u64],
+    u: Used,
+    out: &mut [u8],
+) -> Written
+    ensures { λ r. ⌜ outcome r (now (out .exit)) ≡ pathsOutcome (now (text .entry)) (now (nodes .entry)) (now (letters .entry)) (now (links .entry)) c (now (rules .entry)) (now (steps .entry)) u (now (out .entry)) ⌝ }
+{
+    let number = rewriting::old_number(nodes, letters, links, c, rules, steps, u);
+    if number != 0 {
+        return Written { number, len: 0 };
+    }
+    paths::print_paths(text, nodes, c, rules, steps, u, out)
+}

@@ -1,0 +1,3 @@
+pub mod Expand
+pub mod SpellWalk
+pub mod TransformWalk
