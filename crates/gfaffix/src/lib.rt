@@ -8,6 +8,7 @@ pub use folding::collapse_all;
 pub use texts::parse_and_transform_paths;
 pub use texts::parse_header;
 pub use texts::print_active_subgraph;
+pub use texts::print_transformations;
 pub use texts::read_gfa;
 pub use walking::expand;
 pub use walking::spell_walk;

@@ -1,4 +1,5 @@
 pub mod ParseAndTransformPaths
 pub mod ParseHeader
 pub mod PrintActiveSubgraph
+pub mod PrintTransformations
 pub mod ReadGfa

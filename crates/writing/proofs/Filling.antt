@@ -17,6 +17,11 @@ module _ {l bs : List ℕ} {at next : ℕ} where
   pub not-filled : {m : List ℕ} → next ≡ at + length bs → length l < next → Filled l at bs m next
   not-filled e h = record { place = e; bytes = λ k. absurd (omega arith) }
 
+-- nothing is to be written
+pub nothing-filled : {bs : List ℕ} (l : List ℕ) (at : ℕ) → bs ≡ [] → Filled l at bs l at
+nothing-filled l at e =
+    record { place = omega (arith, ap length e); bytes = λ h. sym (ap (sets l at) e) }
+
 -- one writer and then the next
 pub filled-then : {l m k a b : List ℕ} {at p q : ℕ} → Filled l at a m p → Filled m p b k q → Filled l at (a ++ b) k q
 filled-then {l} {m} {k} {a} {b} {at} {p} {q} e f =

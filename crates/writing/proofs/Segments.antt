@@ -21,11 +21,13 @@ use Rattle.store.specs.Views.{unmarkedNode}
 use Rattle.store.proofs.Fields.{nodeAt, left-node, node-is}
 use Rattle.formed.specs.WellFormed.{goodNode}
 use Rattle.formed.proofs.Says.{node-says}
-use Rattle.sides.specs.Sides.{nextAbove}
+use Rattle.sides.specs.Sides.{rising, nextAbove}
 use Rattle.sides.specs.Search.{lower, lowest}
 use Rattle.sides.proofs.Rising.{Sorted, rising-sorted, of-rising, next-lowest, restAbove, rest-all, Step}
 use Rattle.affix.specs.Reading.{Readable}
 use Rattle.writing.specs.GraphText.{liveSegments}
+use Rattle.writing.specs.TableText.{oldSegments}
+use Rattle.writing.proofs.Lists.{keep-all}
 
 abbrev forwards : List Node → List Handle
 forwards rs = map (λ r. pack (r .id) 0) rs
@@ -106,3 +108,7 @@ module _ (rs : List Node) (ids : idsGood rs) where
 -- a turn found a segment
 pub step-member : {above n : ℕ} {xs : List Handle} → Step above xs n → List·Memᴰ (handle n) xs
 step-member {above} {n} {xs} s = of-keep (λ (h : Handle). ltb above (h .packed)) xs {a = handle n} (rw (s .rest) (List·Memᴰ·head refl)) .0
+
+-- where no node is marked, these are all
+pub live-old : (rs : List Node) → all unmarkedNode rs ≡ true → liveSegments rs ≡ oldSegments rs
+live-old rs t = ap (λ (l : List Node). rising (forwards l)) (keep-all unmarkedNode rs (λ r m. all-mem unmarkedNode t m))

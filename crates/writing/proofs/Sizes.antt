@@ -31,7 +31,7 @@ use Rattle.store.proofs.Order.{of-order, order-length}
 use Rattle.writing.proofs.Segments.{readable-ids, segment-id}
 use Rattle.writing.proofs.Texts.{segment-size, segments-bare, end-size, link-size}
 
-spell-short : (g : Graph) (h : Handle) → length (spell g h) ≤ length (g .letters)
+pub spell-short : (g : Graph) (h : Handle) → length (spell g h) ≤ length (g .letters)
 spell-short g h =
     let r = nodeNamed (idOf h) (g .nodes) in
     omega (arith, length-oriented (dirOf h) (span (g .letters) r), length-take (r .len) (drop (r .start) (g .letters)), length-drop (r .start) (g .letters))

@@ -1,0 +1,26 @@
+// The table as text.
+use events::Used;
+use store::Counts;
+use writing::Written;
+ghost use mathlib.Core.Path.{_≡_};
+ghost use Rattle.writing.specs.Outcome.{outcome};
+ghost use Rattle.texts.specs.PrintTransformations.{tableOutcome};
+
+pub fn print_transformations(
+    nodes: &[u64],
+    text: &[u8],
+    links: &[u64],
+    c: Counts,
+    rules: &[u64],
+    steps: &[u64],
+    u: Used,
+    out: &mut [u8],
+) -> Written
+    ensures { λ r. ⌜ outcome r (now (out .exit)) ≡ tableOutcome (now (nodes .entry)) (now (text .entry)) (now (links .entry)) c (now (rules .entry)) (now (steps .entry)) u (now (out .entry)) ⌝ }
+{
+    let number = rewriting::old_number(nodes, text, links, c, rules, steps, u);
+    if number != 0 {
+        return Written { number, len: 0 };
+    }
+    writing::table::print_table(nodes, c, rules, steps, u, out)
+}
