@@ -4,6 +4,7 @@ use store::Counts;
 ghost use mathlib.Core.Path.{_≡_};
 ghost use Rattle.asking.specs.EnumerateBranch.{branch, outcome, branchOutcome};
 
+#[repr(C)]
 pub struct Branch {
     pub number: u64,
     pub groups: usize,

@@ -3,6 +3,7 @@ use store::Counts;
 ghost use mathlib.Core.Path.{_≡_};
 ghost use Rattle.asking.specs.GetSharedPrefix.{outcome, sharedPrefixOutcome};
 
+#[repr(C)]
 pub struct SharedPrefix {
     pub number: u64,
     pub length: usize,

@@ -3,6 +3,7 @@ use store::Counts;
 ghost use mathlib.Core.Path.{_≡_};
 ghost use Rattle.asking.specs.LiveLetters.{letterTotal};
 
+#[repr(C)]
 pub struct LetterTotal {
     pub number: u64,
     pub total: u64,

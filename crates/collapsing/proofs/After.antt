@@ -21,7 +21,7 @@ use Rattle.collapsing.specs.Making.{State, Room, eventsFor, longer, stat
 use Rattle.collapsing.specs.Outcome.{Lent, roomOf, stateIn, holding, countsOf, usedOf}
 use Rattle.collapsing.proofs.Before.{untold, tested, passed-members, fits-few}
 use Rattle.collapsing.proofs.Foreseen.{events-are}
-use Rattle.collapsing.proofs.Front.{decode-front, length-front}
+use Rattle.longer.proofs.Front.{decode-front, length-front}
 use Rattle.collapsing.proofs.Given.{Sound}
 use Rattle.collapsing.proofs.GoodEvents.{GoodEvent, events-good, live-handles, formed-longer}
 use Rattle.collapsing.proofs.Grouped.{first-pass, seven}

@@ -18,9 +18,9 @@ use Rattle.split.proofs.Nodes.{mem-largest}
 use Rattle.affix.specs.Prefix.{membersLive, membersOnce}
 use Rattle.merging.specs.Merging.{isForward}
 use Rattle.merging.specs.Plan.{longBy, suffixBy}
-use Rattle.collapsing.specs.Ahead.{laterEventsBy, eventsBy}
-use Rattle.collapsing.proofs.ByMember.{lengthIn, run-of, events-run}
-use Rattle.collapsing.proofs.OneEvent.{walk-all}
+use Rattle.longer.specs.Ahead.{laterEventsBy, eventsBy}
+use Rattle.longer.proofs.ByMember.{lengthIn, run-of, events-run}
+use Rattle.longer.proofs.OneEvent.{walk-all}
 use Rattle.collapsing.proofs.Order.{Apart}
 
 -- another key

@@ -25,11 +25,11 @@ use Rattle.merged.proofs.NodesAlone.{nodes-are}
 use Rattle.merged.proofs.Members.{Collapses}
 use Rattle.merged.proofs.Theorems.{count-after}
 use Rattle.collapsing.specs.Making.{Room, state, sameLefts, needsHigh, membersNumber, listNumber, groupNumber, stateAfter, fits}
-use Rattle.collapsing.specs.Ahead.{eventsBy}
-use Rattle.collapsing.specs.Longer.{Passed}
+use Rattle.longer.specs.Ahead.{eventsBy}
+use Rattle.longer.specs.Longer.{Passed}
 use Rattle.collapsing.specs.Ready.{listsFit, readyNumber}
-use Rattle.collapsing.proofs.Appending.{rule-count, step-count}
-use Rattle.collapsing.proofs.ByMember.{lengthIn, event-count, event-steps}
+use Rattle.longer.proofs.Appending.{rule-count, step-count}
+use Rattle.longer.proofs.ByMember.{lengthIn, event-count, event-steps}
 use Rattle.collapsing.proofs.Foreseen.{events-are}
 
 -- a test whose number is not given was not met
@@ -102,18 +102,6 @@ module _ (p : ℕ) (g : Graph) (ms : List Handle) where
       let t = tested p g ms e in
       record { some = omega (arith, t .two); live = t .live; once = t .once; low = t .low; enough = t .enough }
 
-pub one-place : (b : Bool) (n : ℕ) → 1 ≤ n → cond b 0 1 ≤ n
-one-place true n h = omega arith
-one-place false n h = h
-
--- how many events: each member's, but for a first one of p letters
-pub event-many : (p : ℕ) (nodes : List Node) (ns : List ℕ) (len : ℕ) → 1 ≤ length ns → len ≡ lengthIn nodes (handle (getD ns 0 0)) → length ns - cond (ltb p len) 0 1 ≡ length (eventsBy p nodes (handlesOf ns))
-event-many p nodes [] len h e = absurd (omega arith)
-event-many p nodes (n ∷ ns) len h e = rw e (by (longBy p nodes (handle n)) (event-count p nodes (handle n) (handlesOf ns)))
-  where
-    by : (b : Bool) {k : ℕ} → k ≡ length (handlesOf ns) + cond b 1 0 → length (n ∷ ns) - cond b 0 1 ≡ k
-    by true f = omega (arith, length-map ns handle)
-    by false f = omega (arith, length-map ns handle)
 
 -- a step for each event, and one more for a long member's
 all-steps : (p : ℕ) (nodes : List Node) (ms : List Handle) → sum (λ a. length (a .walk)) (eventsBy p nodes ms) ≡ count (longBy p nodes) ms + length (eventsBy p nodes ms)

@@ -15,7 +15,7 @@ use Rattle.merging.specs.Plan.{freshAfter, suffixBy}
 use Rattle.merged.proofs.Members.{Collapses, same-len}
 use Rattle.merged.proofs.Theorems.{Shares, turn, left, still, first, others, shares}
 use Rattle.collapsing.specs.Making.{eventFor, laterEvents, eventsFor}
-use Rattle.collapsing.specs.Ahead.{laterEventsBy, firstEventBy, eventsBy}
+use Rattle.longer.specs.Ahead.{laterEventsBy, firstEventBy, eventsBy}
 
 module _ (p : ℕ) (x : Handle) where
   abbrev walkOf : ℕ → Handle → ℕ → List Step

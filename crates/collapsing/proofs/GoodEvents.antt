@@ -24,11 +24,11 @@ use Rattle.events.specs.WellFormed.{roomForRules, goodRule, goodStep, goodTable
 use Rattle.events.proofs.Says.{rule-says, says-rule}
 use Rattle.merging.specs.Merging.{isForward}
 use Rattle.merging.specs.Plan.{longBy, freshAfter, prefixBy}
-use Rattle.collapsing.specs.Ahead.{eventsBy}
-use Rattle.collapsing.specs.Longer.{Holds}
-use Rattle.collapsing.proofs.ByMember.{lengthIn, one-more, event-of}
-use Rattle.collapsing.proofs.OneEvent.{walk-length, walk-sum, walk-all}
-use Rattle.collapsing.proofs.Held.{holds-list}
+use Rattle.longer.specs.Ahead.{eventsBy}
+use Rattle.longer.specs.Longer.{Holds}
+use Rattle.longer.proofs.ByMember.{lengthIn, one-more, event-of}
+use Rattle.longer.proofs.OneEvent.{walk-length, walk-sum, walk-all}
+use Rattle.longer.proofs.Held.{holds-list}
 
 -- each event's lengths add up to its key's
 pub lengths-add : (p : ℕ) (nodes : List Node) (ms : List Handle) → ((m : Handle) → List·Memᴰ m ms → p ≤ lengthIn nodes m) → {e : Event} → List·Memᴰ e (eventsBy p nodes ms) → sum (λ s. s .len) (e .walk) ≡ e .len

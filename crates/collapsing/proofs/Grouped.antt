@@ -27,8 +27,8 @@ use Rattle.merged.proofs.NodesAlone.{nodes-are}
 use Rattle.merged.proofs.Theorems.{links-are, counts-same}
 use Rattle.collapsing.specs.Making.{State, state, stateAfter, membersNumber, groupNumber, collapseNumber, fits}
 use Rattle.collapsing.specs.Ready.{listsFit, linksFit, readyNumber}
-use Rattle.collapsing.specs.Ahead.{eventsBy}
-use Rattle.collapsing.specs.Longer.{Passed, RoomFor, beginning}
+use Rattle.longer.specs.Ahead.{eventsBy}
+use Rattle.longer.specs.Longer.{Passed, RoomFor, beginning}
 use Rattle.collapsing.specs.Put.{Storable, stateBy, linkRoom}
 use Rattle.collapsing.specs.Outcome.{Lent, Outcome, roomOf, stateIn, refused, made, firstOf, groupOutcome}
 use Rattle.collapsing.proofs.Foreseen.{events-are}

@@ -11,11 +11,11 @@ use Rattle.store.specs.Graph.{Node}
 use Rattle.events.specs.declared.Used.{Used}
 use Rattle.events.specs.Events.{Rules, Event, listOf, appendAll}
 use Rattle.events.specs.WellFormed.{roomForRules, goodRule, goodStep, goodTable, hasStep, tableFormed, eventsFormed, keysOnce, inOrder}
-use Rattle.collapsing.specs.Ahead.{eventsBy, keysNew, stepsNew}
-use Rattle.collapsing.specs.Longer.{Passed}
-use Rattle.collapsing.proofs.Keys.{keys-longer}
+use Rattle.longer.specs.Ahead.{eventsBy, keysNew, stepsNew}
+use Rattle.longer.specs.Longer.{Passed}
+use Rattle.longer.proofs.Keys.{keys-longer}
 use Rattle.collapsing.proofs.Order.{order-longer}
-use Rattle.collapsing.proofs.ByMember.{ids-once}
+use Rattle.longer.proofs.ByMember.{ids-once}
 use Rattle.collapsing.proofs.Apart.{events-apart, live-known}
 
 module _ (rules steps : List ℕ) (u : Used) (f : eventsFormed rules steps u ≡ true) where

@@ -14,8 +14,8 @@ use Rattle.handle.specs.Handle.{idOf}
 use Rattle.events.specs.Events.{Rule, Step, Rules, rule, walkOf, keyed, Event, append, appendAll}
 use Rattle.events.specs.WellFormed.{goodRule, stepsLater, inOrderFrom, inOrder}
 use Rattle.events.proofs.Says.{rule-says}
-use Rattle.collapsing.specs.Ahead.{stepsNew}
-use Rattle.collapsing.proofs.Keys.{all-same, any-last}
+use Rattle.longer.specs.Ahead.{stepsNew}
+use Rattle.longer.proofs.Keys.{all-same, any-last}
 
 -- rules and then more rules
 order-append : (met : List Rule) (steps : List Step) (rs ts : List Rule) → inOrderFrom met steps (rs ++ ts) ≡ (inOrderFrom met steps rs && inOrderFrom (met ++ rs) steps ts)

@@ -11,7 +11,7 @@ use Rattle.events.specs.declared.Used.{Used}
 use Rattle.events.specs.Events.{ruleLayout, stepLayout}
 use Rattle.merging.specs.Plan.{remark}
 use Rattle.collapsing.specs.Making.{State}
-use Rattle.collapsing.specs.Longer.{front}
+use Rattle.longer.specs.Longer.{front}
 use Rattle.collapsing.specs.Outcome.{Lent, outcome, made, lent, usedOf}
 
 pub remark-length : (old rs : List Link) → length (remark old rs) ≡ length rs

@@ -7,7 +7,7 @@ use Rattle.handle.specs.Edge.{edge, written}
 use Rattle.store.specs.Graph.{Graph, node, link}
 use Rattle.events.specs.Events.{rule, step, appendAll}
 use Rattle.collapsing.specs.Making.{eventsFor}
-use Rattle.collapsing.specs.Ahead.{eventsBy}
+use Rattle.longer.specs.Ahead.{eventsBy}
 
 abbrev pub g : Graph
 g =

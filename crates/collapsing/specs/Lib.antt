@@ -1,5 +1,3 @@
-pub mod Ahead
-pub mod Longer
 pub mod Making
 pub mod Outcome
 pub mod Put

@@ -14,8 +14,8 @@ use Rattle.linking.specs.declared.Made.{Made}
 use Rattle.linking.specs.Fit.{fitted}
 use Rattle.merging.specs.Plan.{mergedNodes, remark}
 use Rattle.collapsing.specs.Making.{State, state}
-use Rattle.collapsing.specs.Ahead.{eventsBy}
-use Rattle.collapsing.specs.Longer.{Passed}
+use Rattle.longer.specs.Ahead.{eventsBy}
+use Rattle.longer.specs.Longer.{Passed}
 
 -- these links were planned in l, which left m and answered r
 pub record Planned (l : List ℕ) (rs : List Link) (r : Made) (m : List ℕ) : Type 0 where

@@ -1,5 +1,4 @@
 // A collapse of a group, in the arrays that hold graph and events.
-mod longer;
 mod make;
 pub mod number;
 mod plan;
@@ -23,13 +22,14 @@ ghost use Rattle.events.specs.Events.{rulesOf, listOf, appendAll};
 ghost use Rattle.events.specs.WellFormed.{eventsFormed, keysOnce};
 ghost use Rattle.merging.specs.Plan.{dim, longBy, planned};
 ghost use Rattle.linking.specs.Fit.{Plans};
-ghost use Rattle.collapsing.specs.Ahead.{eventsBy};
-ghost use Rattle.collapsing.specs.Longer.{RoomFor, beginning};
+ghost use Rattle.longer.specs.Ahead.{eventsBy};
+ghost use Rattle.longer.specs.Longer.{RoomFor, beginning};
 ghost use Rattle.collapsing.specs.Put.{Storable, stateBy, linkRoom};
 ghost use Rattle.collapsing.specs.Ready.{readyNumber};
 ghost use Rattle.collapsing.specs.Outcome.{outcome, refused, made, lent, firstOf, roomOf, stateIn, groupOutcome};
 
 // 01's number, the shared node, and what is in use after it.
+#[repr(C)]
 pub struct Collapsed {
     pub number: u64,
     pub shared: u64,

@@ -1,6 +1,5 @@
 // A collapse is stored: nothing can be refused any more.
 use crate::Collapsed;
-use crate::longer;
 use events::Used;
 use handle::Handle;
 use merging::copies;
@@ -15,8 +14,8 @@ ghost use Rattle.store.specs.Views.{largest};
 ghost use Rattle.affix.specs.Prefix.{handlesOf};
 ghost use Rattle.events.specs.Events.{listOf, appendAll};
 ghost use Rattle.merging.specs.Plan.{longBy};
-ghost use Rattle.collapsing.specs.Ahead.{eventsBy};
-ghost use Rattle.collapsing.specs.Longer.{RoomFor, beginning};
+ghost use Rattle.longer.specs.Ahead.{eventsBy};
+ghost use Rattle.longer.specs.Longer.{RoomFor, beginning};
 ghost use Rattle.collapsing.specs.Put.{Storable, stateBy};
 ghost use Rattle.collapsing.specs.Outcome.{outcome, made, lent, firstOf};
 

@@ -1,5 +1,4 @@
 // Which number a group gives: 8 to 11 by its members, then 5 and 12 by the list with its events.
-use crate::longer;
 use events::Used;
 use handle::Handle;
 use store::Counts;
@@ -14,8 +13,8 @@ ghost use Rattle.affix.specs.Prefix.{handlesOf};
 ghost use Rattle.events.specs.Events.{rulesOf, listOf, appendAll};
 ghost use Rattle.events.specs.WellFormed.{eventsFormed, keysOnce};
 ghost use Rattle.collapsing.specs.Making.{sameLefts, membersNumber, listNumber};
-ghost use Rattle.collapsing.specs.Ahead.{eventsBy};
-ghost use Rattle.collapsing.specs.Longer.{Passed};
+ghost use Rattle.longer.specs.Ahead.{eventsBy};
+ghost use Rattle.longer.specs.Longer.{Passed};
 ghost use Rattle.collapsing.specs.Outcome.{lent, stateNumber};
 
 // 13 of graph and events, then 5 of ids and keys.

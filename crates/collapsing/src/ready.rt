@@ -1,5 +1,4 @@
 // Every number that a collapse can give before its links are made.
-use crate::longer;
 use crate::number;
 use crate::room;
 use events::Used;

@@ -28,10 +28,10 @@ use Rattle.collapsing.proofs.Given as given
 use Rattle.sequences.specs.Sequences.{Collapse, beginning, afterOne, afterAll, allowed, lowersAll}
 use Rattle.sequences.proofs.Letters.{Sound, Allowed, kept-all, collapses, sound-one, letters-fall-all}
 use Rattle.sequences.proofs.InOrder.{longer-in-order}
-use Rattle.driver.specs.Scan.{nextGroup}
+use Rattle.choosing.specs.Scan.{nextGroup}
 use Rattle.driver.specs.Drive.{Run, ran, prefixLen, driveFor, drive}
 use Rattle.driver.specs.Outcome.{driveOutcome}
-use Rattle.driver.proofs.Trying.{Must, must-says}
+use Rattle.choosing.proofs.Trying.{Must, must-says}
 use Rattle.driver.proofs.Theorems.{none-remains, next-must, never-8-9-10}
 use Rattle.driver.proofs.Grown.{each-end}
 use Rattle.driver.proofs.Falls.{nonempty, some-letter, turn-falls}

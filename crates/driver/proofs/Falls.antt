@@ -21,7 +21,7 @@ use Rattle.merging.specs.Merging.{collapsed}
 use Rattle.merged.proofs.Members as members
 use Rattle.merged.proofs.Theorems.{letters-fall}
 use Rattle.collapsing.specs.Making.{State}
-use Rattle.driver.specs.Scan.{nextGroup}
+use Rattle.choosing.specs.Scan.{nextGroup}
 use Rattle.driver.specs.Drive.{prefixLen}
 use Rattle.driver.proofs.Theorems.{next-collapses}
 

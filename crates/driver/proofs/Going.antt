@@ -20,7 +20,7 @@ use Rattle.collapsing.specs.Outcome.{Lent, roomOf, stateIn, holding, countsOf, 
 use Rattle.collapsing.proofs.After.{collapses, back-after, room-after, sound-after}
 use Rattle.collapsing.proofs.Given.{Sound}
 use Rattle.driver.specs.declared.Driven.{Driven}
-use Rattle.driver.specs.Scan.{nextGroup}
+use Rattle.choosing.specs.Scan.{nextGroup}
 use Rattle.driver.specs.Drive.{Run, ran, orElse, prefixLen, driveFor}
 use Rattle.driver.specs.Outcome.{Outcome, outcome, holdingRun, driveOutcome}
 use Rattle.driver.proofs.Falls.{nonempty, some-letter, turn-falls}

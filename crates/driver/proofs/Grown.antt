@@ -15,9 +15,9 @@ use Rattle.merging.specs.Merging.{isLong, cutAt, alone, prefixOf, markNode, lat
 use Rattle.merged.proofs.Kept.{Kept, kept-new, kept-old, marks-kept}
 use Rattle.collapsing.specs.Making.{State, Room, eventsFor, stateAfter, collapseNumber}
 use Rattle.collapsing.specs.Outcome.{Lent, holding}
-use Rattle.collapsing.proofs.Appending.{rule-count, step-count}
-use Rattle.collapsing.proofs.Front.{front-front}
-use Rattle.driver.specs.Scan.{nextGroup}
+use Rattle.longer.proofs.Appending.{rule-count, step-count}
+use Rattle.longer.proofs.Front.{front-front}
+use Rattle.choosing.specs.Scan.{nextGroup}
 use Rattle.driver.specs.Drive.{Run, ran, orElse, prefixLen, driveFor}
 
 -- the nodes of a collapse

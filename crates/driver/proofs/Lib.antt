@@ -1,10 +1,7 @@
-pub mod Along
 pub mod Drives
 pub mod Falls
-pub mod Firsts
 pub mod Going
 pub mod Grown
 pub mod Theorems
-pub mod Trying
 pub mod Turns
 pub mod Worked

@@ -21,11 +21,11 @@ use Rattle.affix.specs.Prefix.{membersLive, membersOnce, groupPrefix}
 use Rattle.groups.specs.Groups.{groupsOf}
 use Rattle.groups.proofs.Groups.{group-member, of-groups, same-group}
 use Rattle.collapsing.specs.Making.{State, sameLefts, needsHigh, membersNumber}
-use Rattle.driver.specs.Scan.{scanOrder, mustCollapse, nextGroup}
+use Rattle.choosing.specs.Scan.{scanOrder, mustCollapse, nextGroup}
 use Rattle.driver.specs.Drive.{prefixLen}
-use Rattle.driver.proofs.Along.{scan-live, live-scan}
-use Rattle.driver.proofs.Trying.{Must, must-says, says-must, group-live}
-use Rattle.driver.proofs.Firsts.{first-some, none-must, some-must}
+use Rattle.choosing.proofs.Along.{scan-live, live-scan}
+use Rattle.choosing.proofs.Trying.{Must, must-says, says-must, group-live}
+use Rattle.choosing.proofs.Firsts.{first-some, none-must, some-must}
 
 module _ (g : Graph) (protected : List ℕ) where
   -- all that are looked at

@@ -21,15 +21,15 @@ use Rattle.collapsing.specs.declared.Collapsed.{Collapsed}
 use Rattle.collapsing.specs.Making.{State, stateAfter, collapseNumber}
 use Rattle.collapsing.specs.Outcome as collapse
 use Rattle.collapsing.specs.Outcome.{Lent, roomOf, stateIn, groupOutcome}
-use Rattle.collapsing.proofs.Front.{front-same}
+use Rattle.longer.proofs.Front.{front-same}
 use Rattle.collapsing.proofs.Given.{Sound}
 use Rattle.collapsing.proofs.Lists.{table-formed}
-use Rattle.driver.specs.Scan.{nextGroup}
-use Rattle.driver.specs.Search.{Front}
+use Rattle.choosing.specs.Scan.{nextGroup}
+use Rattle.choosing.specs.Search.{Front}
 use Rattle.driver.specs.Drive.{Run, ran, orElse, driveFor}
 use Rattle.driver.specs.Turn.{groupRun}
 use Rattle.driver.specs.Outcome.{Outcome, outcome, refused, holdingRun}
-use Rattle.driver.proofs.Trying.{numbers-back}
+use Rattle.choosing.proofs.Trying.{numbers-back}
 
 module _ (l : Lent) (letters : List ℕ) (c : Counts) (u : Used) (sound : Sound l letters c u) where
   abbrev s : State

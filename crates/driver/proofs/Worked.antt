@@ -7,7 +7,7 @@ use Rattle.handle.specs.Edge.{edge, written}
 use Rattle.store.specs.Graph.{Graph, node, link}
 use Rattle.groups.specs.Groups.{groupsOf}
 use Rattle.collapsing.specs.Making.{State, Room, state, stateAfter}
-use Rattle.driver.specs.Scan.{scanOrder, nextGroup}
+use Rattle.choosing.specs.Scan.{scanOrder, nextGroup}
 use Rattle.driver.specs.Drive.{drive, ran}
 
 abbrev pub s : State

@@ -7,7 +7,7 @@ use lib.ListN.{length}
 use Rattle.store.specs.Views.{liveLetters}
 use Rattle.affix.specs.Prefix.{groupPrefix}
 use Rattle.collapsing.specs.Making.{State, Room, stateAfter, collapseNumber}
-use Rattle.driver.specs.Scan.{nextGroup}
+use Rattle.choosing.specs.Scan.{nextGroup}
 
 -- a number, how many collapses were made, and what they made
 pub record Run : Type 0 where

@@ -1,5 +1,3 @@
 pub mod Drive
 pub mod Outcome
-pub mod Scan
-pub mod Search
 pub mod Turn

@@ -1,6 +1,5 @@
 // The driver's loop. Who calls it has tested graph and events.
 use crate::Driven;
-use crate::scan;
 use events::Used;
 use store::Counts;
 ghost use Prim.Native.Nat.{_≤_};
@@ -65,7 +64,7 @@ fn turn(
     requires { ⌜ c .nodes ≤ length (now members) ⌝ }
     ensures { λ r. ⌜ outcome r (lent (now (nodes .exit)) (now (links .exit)) (now (rules .exit)) (now (steps .exit))) ≡ holdingRun (driveFor 1 (roomOf (lent (now (nodes .entry)) (now (links .entry)) (now (rules .entry)) (now (steps .entry)))) (now (protected .entry)) 0 (stateIn (lent (now (nodes .entry)) (now (links .entry)) (now (rules .entry)) (now (steps .entry))) (now (text .entry)) c u)) c (lent (now (nodes .entry)) (now (links .entry)) (now (rules .entry)) (now (steps .entry))) ⌝ }
 {
-    let n = scan::next_group(nodes, text, links, c, protected, members);
+    let n = choosing::next_group(nodes, text, links, c, protected, members);
     if n == 0 {
         return crate::refuse(0, c, u);
     }

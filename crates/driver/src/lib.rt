@@ -1,12 +1,12 @@
 // The driver: collapses one group after another until none is left.
 pub mod drive;
-pub mod scan;
 
 use events::Used;
 use store::Counts;
 ghost use mathlib.Core.Path.{_≡_};
 
 // 01's number, how many collapses were made, and what is in use after them.
+#[repr(C)]
 pub struct Driven {
     pub number: u64,
     pub made: u64,

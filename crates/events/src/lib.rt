@@ -12,6 +12,7 @@ ghost use Rattle.events.specs.Events.{rule, rulesOf, stepsOf, listOf, fi
 ghost use Rattle.events.specs.WellFormed.{roomForRules, goodRule, goodStep, hasStep, keysOnce, tableFormed, eventsFormed, stepsLater, inOrder};
 
 // How many rules and steps are in use.
+#[repr(C)]
 pub struct Used {
     pub rules: usize,
     pub steps: usize,

@@ -15,6 +15,7 @@ ghost use Rattle.reading.specs.Outcome.{outcome, readOutcome};
 ghost use Rattle.reading.specs.Held.{Came};
 
 // 01's number, and what was read.
+#[repr(C)]
 pub struct Read {
     pub number: u64,
     pub counts: Counts,

@@ -24,6 +24,7 @@ ghost use Rattle.spelling.specs.Spelling.{spellWalk};
 ghost use Rattle.scanning.specs.Rules.{verdict, orThen, unless, stepFault, lengthsSum, isOldKey, spellsKey, rulesFault};
 
 // 01's number, and two places.
+#[repr(C)]
 pub struct Verdict {
     pub number: u64,
     pub first: u64,

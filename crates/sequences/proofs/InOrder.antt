@@ -25,14 +25,14 @@ use Rattle.merging.specs.Merging.{isForward, collapsed}
 use Rattle.merging.specs.Plan.{longBy, prefixBy, suffixBy}
 use Rattle.merged.proofs.Members.{Collapses}
 use Rattle.collapsing.specs.Making.{State, state, stateAfter, membersNumber, listNumber, longer}
-use Rattle.collapsing.specs.Ahead.{eventsBy, keysNew, stepsNew}
-use Rattle.collapsing.proofs.Appending.{rulesFrom, rules-longer}
+use Rattle.longer.specs.Ahead.{eventsBy, keysNew, stepsNew}
+use Rattle.longer.proofs.Appending.{rulesFrom, rules-longer}
 use Rattle.collapsing.proofs.Apart.{events-apart, live-known}
-use Rattle.collapsing.proofs.ByMember.{ids-once, event-of}
+use Rattle.longer.proofs.ByMember.{ids-once, event-of}
 use Rattle.collapsing.proofs.Foreseen.{events-are}
 use Rattle.collapsing.proofs.GoodEvents.{events-good, live-handles, good-longer}
-use Rattle.collapsing.proofs.Keys.{keys-longer}
-use Rattle.collapsing.proofs.OneEvent.{walk-all}
+use Rattle.longer.proofs.Keys.{keys-longer}
+use Rattle.longer.proofs.OneEvent.{walk-all}
 use Rattle.collapsing.proofs.Order.{order-longer}
 use Rattle.sequences.specs.Sequences.{Collapse, beginning, afterOne, afterAll, allowed}
 use Rattle.sequences.proofs.Letters.{Allowed, Sound, collapses, sound-one, kept-all}

@@ -26,8 +26,8 @@ use Rattle.merged.proofs.Formed.{live-stored}
 use Rattle.merged.proofs.Alone.{Member, Turn}
 use Rattle.merged.proofs.Members.{Collapses, member, same-len}
 use Rattle.merged.proofs.Theorems.{Shares, turn, left, still, first, others, shares}
-use Rattle.collapsing.specs.Ahead.{eventsBy}
-use Rattle.collapsing.proofs.ByMember.{startAt, events-run, run-of}
+use Rattle.longer.specs.Ahead.{eventsBy}
+use Rattle.longer.proofs.ByMember.{startAt, events-run, run-of}
 
 -- the nodes that were are stored, none longer, and none live that was not
 pub record Less (rs ts : List Node) : Type 0 where

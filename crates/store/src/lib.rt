@@ -14,6 +14,7 @@ ghost use Rattle.store.specs.Graph.{nodesOf, linksOf, link};
 ghost use Rattle.store.specs.Views.{findNode, stored, nodeNamed, liveNode, largest, liveLetters, findLink, liveLink, joinsLive};
 
 // How many nodes, letters and links are in use.
+#[repr(C)]
 pub struct Counts {
     pub nodes: usize,
     pub letters: usize,

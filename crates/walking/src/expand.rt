@@ -3,6 +3,7 @@ use events::Used;
 ghost use mathlib.Core.Path.{_≡_};
 ghost use Rattle.walking.specs.Expand.{answer, outcome, expandOutcome};
 
+#[repr(C)]
 pub struct Expanded {
     pub number: u64,
     pub used: Used,

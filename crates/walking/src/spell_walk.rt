@@ -9,6 +9,7 @@ ghost use Rattle.affix.specs.Reading.{Readable};
 ghost use Rattle.spelling.specs.Spelling.{spellWalk};
 ghost use Rattle.walking.specs.SpellWalk.{outcome, answer, given, spellOutcome};
 
+#[repr(C)]
 pub struct Spelling {
     pub number: u64,
     pub place: usize,

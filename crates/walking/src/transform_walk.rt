@@ -5,6 +5,7 @@ use store::Counts;
 ghost use mathlib.Core.Path.{_≡_};
 ghost use Rattle.walking.specs.TransformWalk.{outcome, transformOutcome};
 
+#[repr(C)]
 pub struct Rewritten {
     pub number: u64,
     pub length: usize,

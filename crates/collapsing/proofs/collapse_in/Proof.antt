@@ -9,7 +9,7 @@ use Rattle.store.specs.Graph.{Link, linkLayout, nodesOf, linksOf}
 use Rattle.affix.specs.Prefix.{handlesOf}
 use Rattle.events.specs.Events.{listOf}
 use Rattle.merging.specs.Plan.{dim, planned}
-use Rattle.collapsing.specs.Longer.{beginning}
+use Rattle.longer.specs.Longer.{beginning}
 use Rattle.collapsing.specs.Put.{stateBy}
 use Rattle.collapsing.specs.Outcome.{made, lent, firstOf}
 use Rattle.collapsing.proofs.Planning.{planned-count, planned-full, planned-more}

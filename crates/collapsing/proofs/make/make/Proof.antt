@@ -16,11 +16,11 @@ use Rattle.affix.specs.Prefix.{handlesOf, membersLive}
 use Rattle.affix.proofs.Runs.{left-handle}
 use Rattle.events.specs.Events.{listOf}
 use Rattle.merged.proofs.Formed.{live-stored}
-use Rattle.collapsing.specs.declared.longer.Run.{Run}
-use Rattle.collapsing.specs.Longer.{beginning}
+use Rattle.longer.specs.declared.Run.{Run}
+use Rattle.longer.specs.Longer.{beginning}
 use Rattle.collapsing.specs.Put.{Storable, stateBy}
 use Rattle.collapsing.specs.Outcome.{lent, firstOf}
-use Rattle.collapsing.proofs.Turns.{first-fits}
+use Rattle.longer.proofs.Turns.{first-fits}
 use Rattle.collapsing.proofs.Stored.{remark-length, all-stored}
 use Rattle.collapsing.proofs.make.make.Statement.{statement}
 use Rattle.collapsing.proofs.make.make.Tie as tie

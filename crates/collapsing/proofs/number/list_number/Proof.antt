@@ -9,7 +9,7 @@ use Rattle.affix.specs.Prefix.{handlesOf}
 use Rattle.events.specs.Events.{rulesOf, listOf, appendAll}
 use Rattle.events.specs.WellFormed.{keysOnce, inOrder}
 use Rattle.events.proofs.Says.{RuleRoom, table-room}
-use Rattle.collapsing.specs.Ahead.{eventsBy, keysNew}
+use Rattle.longer.specs.Ahead.{eventsBy, keysNew}
 use Rattle.collapsing.proofs.Lists.{table-formed, keys-are, order-is}
 use Rattle.collapsing.proofs.number.list_number.Statement.{statement}
 use Rattle.collapsing.proofs.number.list_number.Tie as tie

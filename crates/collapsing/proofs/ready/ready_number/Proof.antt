@@ -14,7 +14,7 @@ use Rattle.events.specs.Events.{Rules, ruleLayout, stepLayout, listOf, appendAl
 use Rattle.events.proofs.Says.{RuleRoom, table-room}
 use Rattle.merged.proofs.Members.{Collapses}
 use Rattle.collapsing.specs.Making.{Room as Lengths, state, membersNumber, listNumber}
-use Rattle.collapsing.specs.Ahead.{eventsBy}
+use Rattle.longer.specs.Ahead.{eventsBy}
 use Rattle.collapsing.specs.Outcome.{lent, roomOf}
 use Rattle.collapsing.specs.Ready.{readyNumber}
 use Rattle.collapsing.proofs.Lists.{table-formed}

@@ -1,0 +1,7 @@
+pub mod Appending
+pub mod ByMember
+pub mod Front
+pub mod Held
+pub mod Keys
+pub mod OneEvent
+pub mod Turns
