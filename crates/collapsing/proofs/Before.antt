@@ -102,7 +102,6 @@ module _ (p : ℕ) (g : Graph) (ms : List Handle) where
       let t = tested p g ms e in
       record { some = omega (arith, t .two); live = t .live; once = t .once; low = t .low; enough = t .enough }
 
-
 -- a step for each event, and one more for a long member's
 all-steps : (p : ℕ) (nodes : List Node) (ms : List Handle) → sum (λ a. length (a .walk)) (eventsBy p nodes ms) ≡ count (longBy p nodes) ms + length (eventsBy p nodes ms)
 all-steps p nodes [] = refl

@@ -1,6 +1,6 @@
 // What the P and W lines of a text are refused for. Other lines are not looked at.
+use fields::line_number;
 use reading::steps::said_stored;
-use text::fields::line_number;
 use text::pieces::is_line;
 use text::pieces::piece_end;
 ghost use Prim.Native.Nat.{_*_, _≤_};

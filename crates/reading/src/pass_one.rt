@@ -1,8 +1,8 @@
 // Pass one: what each line alone is refused for, and the segments.
 use crate::Read;
 use crate::add::add_segment;
+use fields::line_number;
 use store::Counts;
-use text::fields::line_number;
 use text::names::name_id;
 use text::pieces::field;
 use text::pieces::is_line;

@@ -2,8 +2,8 @@
 use crate::Read;
 use crate::add::add_link;
 use crate::steps::said_stored;
+use fields::edge_of;
 use store::Counts;
-use text::fields::edge_of;
 use text::pieces::is_line;
 use text::pieces::piece_end;
 ghost use Prim.Native.Nat.{_*_, _≤_};

@@ -1,7 +1,7 @@
 // Whether what a line names is stored.
+use fields::edge_of;
 use handle::Handle;
 use kit::Found;
-use text::fields::edge_of;
 use text::pieces::field;
 use text::pieces::is_line;
 use text::pieces::piece_end;

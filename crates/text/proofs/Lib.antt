@@ -1,7 +1,6 @@
 pub mod Cuts
 pub mod Headers
 pub mod Naming
-pub mod Shapes
 pub mod StepEnds
 pub mod StepNumbers
 pub mod Worked

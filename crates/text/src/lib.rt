@@ -1,5 +1,4 @@
 // Lines of GFA text: fields, names, steps, and what a line alone is refused for.
-pub mod fields;
 pub mod header;
 pub mod names;
 pub mod pieces;

@@ -22,5 +22,5 @@ pub fn print_transformations(
     if number != 0 {
         return Written { number, len: 0 };
     }
-    writing::table::print_table(nodes, c, rules, steps, u, out)
+    tabling::print_table(nodes, c, rules, steps, u, out)
 }

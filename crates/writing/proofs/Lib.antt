@@ -2,10 +2,8 @@ pub mod Filling
 pub mod Links
 pub mod Lists
 pub mod Printing
-pub mod Rows
 pub mod Segments
 pub mod Sizes
-pub mod TableSize
 pub mod Texts
 pub mod Theorems
 pub mod Worked

@@ -3,7 +3,6 @@ pub mod along;
 pub mod graph;
 pub mod marks;
 pub mod put;
-pub mod table;
 
 // 01's number, and how many bytes were written.
 #[repr(C)]

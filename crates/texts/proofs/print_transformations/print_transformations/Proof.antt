@@ -21,9 +21,9 @@ use Rattle.rewriting.specs.Rewriting.{oldNumber}
 use Rattle.rewriting.proofs.Old.{old-zero}
 use Rattle.writing.specs.Outcome.{refused, writing}
 use Rattle.writing.specs.TableText.{tableText}
-use Rattle.writing.proofs.Rows.{table-bare}
+use Rattle.tabling.proofs.Rows.{table-bare}
 use Rattle.writing.proofs.Segments.{readable-ids}
-use Rattle.writing.proofs.TableSize.{table-fits}
+use Rattle.tabling.proofs.TableSize.{table-fits}
 use Rattle.texts.specs.PrintTransformations.{tableOutcome}
 use Rattle.texts.proofs.print_transformations.print_transformations.Statement.{statement}
 use Rattle.texts.proofs.print_transformations.print_transformations.Tie as tie
