@@ -1,9 +1,8 @@
 -- New lines, part by part.
-use Prim.Native.Nat.{ℕ, suc, _+_, _-_, _≤_, _<_}
+use Prim.Native.Nat.{ℕ, suc}
 use mathlib.Core.Path.{_≡_, ap}
 use mathlib.Core.Bool.{true, _&&_}
 use mathlib.Core.List.{List, [], _∷_, _++_, append-assoc}
-use native.Mathlib.Nat.{sub-zero}
 use native.Mathlib.Omega.{arith}
 use lib.Dec.{eqb}
 use lib.ListN.{length, getD}
@@ -16,24 +15,7 @@ use Rattle.text.specs.Pieces.{field, isLine}
 use Rattle.text.specs.Steps.{pathHandles, walkHandles}
 use Rattle.writing.specs.Marks.{pathText, walkText}
 use Rattle.paths.specs.PathText.{newPath, newWalk}
-use Rattle.paths.specs.Capped.{Open}
-use Rattle.paths.specs.Drawn.{fieldsText}
-use Rattle.paths.proofs.Capping.{Capping, capping-none}
-
--- the first n fields, one by one
-module _ (n : ℕ) (line : List ℕ) where
-  pub fields-none : {stop : ℕ} {l : List ℕ} {at : ℕ} → Open stop l at → Capping stop l at (fieldsText 0 n line) l at (fieldsText 0 (n - 0) line)
-  fields-none o = rw (sub-zero n) (capping-none (fieldsText 0 n line) o)
-
-  pub fields-more : (k : ℕ) → k < n → fieldsText k (n - k) line ≡ (field k line ++ (9 ∷ [])) ++ fieldsText (k + 1) (n - (k + 1)) line
-  fields-more k h =
-      let z : n - k ≡ suc (n - (k + 1)) = omega arith in
-      rw z
-
-  pub fields-end : (k : ℕ) → n ≤ k → fieldsText k (n - k) line ≡ []
-  fields-end k h =
-      let z : n - k ≡ 0 = omega arith in
-      rw z
+use Rattle.drawing.specs.Drawn.{fieldsText}
 
 -- a line's letter is its first field
 one-byte : (b : ℕ) (f : List ℕ) → (eqb (length f) 1 && eqb (getD f 0 0) b) ≡ true → f ≡ b ∷ []

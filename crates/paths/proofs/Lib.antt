@@ -1,5 +1,3 @@
-pub mod Capping
-pub mod Drawing
 pub mod Fielded
 pub mod Printed
 pub mod Refusing

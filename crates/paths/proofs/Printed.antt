@@ -9,7 +9,7 @@ use lib.Dec.{eqb}
 use lib.ListN.{length, drop, length-append}
 use Rattle.kit.proofs.Writes.{sets-front}
 use Rattle.writing.specs.Outcome.{outcome, refused, writing}
-use Rattle.paths.specs.Capped.{capped, Capped}
+use Rattle.drawing.specs.Capped.{capped, Capped}
 
 empty : (l : List ℕ) → length l ≡ 0 → l ≡ []
 empty [] h = refl

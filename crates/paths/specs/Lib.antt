@@ -1,3 +1,1 @@
-pub mod Capped
-pub mod Drawn
 pub mod PathText

@@ -1,10 +1,6 @@
 // P and W lines out, with their walks rewritten. Who calls this has tested the old graph and the table.
-pub mod cap;
-pub mod image;
 pub mod line;
 pub mod number;
-pub mod step;
-pub mod walk;
 
 use events::Used;
 use store::Counts;

@@ -1,8 +1,8 @@
 // P and W lines out.
-use crate::cap::add_bytes;
-use crate::cap::add_fields;
-use crate::walk::add_path;
-use crate::walk::add_walk;
+use drawing::cap::add_bytes;
+use drawing::cap::add_fields;
+use drawing::walk::add_path;
+use drawing::walk::add_walk;
 use events::Used;
 use store::Counts;
 use text::pieces::field;
@@ -18,7 +18,7 @@ ghost use Rattle.events.specs.Events.{listOf};
 ghost use Rattle.events.specs.WellFormed.{tableFormed};
 ghost use Rattle.text.specs.Pieces.{isLine};
 ghost use Rattle.paths.specs.PathText.{newPath, newWalk, newLine, pathsText};
-ghost use Rattle.paths.specs.Capped.{Open, Capped};
+ghost use Rattle.drawing.specs.Capped.{Open, Capped};
 
 fn add_path_line(
     nodes: &[u64],

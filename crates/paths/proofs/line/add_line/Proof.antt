@@ -1,6 +1,6 @@
 use mathlib.Core.Path.{sym, _∙_}
 use borrow.Author.Needs.{needs}
-use Rattle.paths.proofs.Capping.{capped-none}
+use Rattle.drawing.proofs.Capping.{capped-none}
 use Rattle.paths.proofs.line.add_line.Statement.{statement}
 use Rattle.paths.proofs.line.add_line.Tie as tie
 

@@ -10,7 +10,7 @@ use Rattle.events.specs.Events.{listOf}
 use Rattle.text.specs.Pieces.{linesOf}
 use Rattle.text.proofs.Cuts.{piece-last, piece-more}
 use Rattle.paths.specs.PathText.{newLine, pathsText}
-use Rattle.paths.proofs.Capping.{Capping, capping-none, capping-next, capping-all, capping-stop}
+use Rattle.drawing.proofs.Capping.{Capping, capping-none, capping-next, capping-all, capping-stop}
 use Rattle.paths.proofs.line.add_lines.Statement.{statement}
 use Rattle.paths.proofs.line.add_lines.Tie as tie
 

@@ -1,0 +1,3 @@
+pub mod Capping
+pub mod Drawing
+pub mod Fielding
