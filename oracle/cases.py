@@ -8,6 +8,7 @@ from model import MAX_ID, flip
 from texts import any_header_text, any_text
 
 LOTS = [0] * 4000  # room enough for any of these cases
+DAMAGED = []  # the chance that a text is damaged, where compare is told one
 
 
 # Rules
@@ -131,6 +132,10 @@ def some_protected(r, graph):
     if r.random() < 0.04 and chosen:
         chosen.append(chosen[0])
     return chosen
+
+
+def some_text(r, graph, damage):
+    return list(any_text(r, graph, *DAMAGED or [damage]))
 
 
 # Cases by operation
@@ -381,7 +386,7 @@ def spell_walk(r):
 
 
 def read_gfa(r):
-    case = {"text": list(any_text(r, any_graph(r))), "nodes": LOTS, "letters": LOTS, "links": LOTS}
+    case = {"text": some_text(r, any_graph(r), 0.5), "nodes": LOTS, "letters": LOTS, "links": LOTS}
     answer = model.answer("read_gfa", case)
     for name, count, stride in (("nodes", "node_count", 4), ("letters", "letter_count", 1),
                                 ("links", "link_count", 3)):
@@ -403,7 +408,7 @@ def print_transformations(r):
 
 def parse_and_transform_paths(r):
     graph, case = old_and_table(r)
-    case["text"] = list(any_text(r, graph, 0.3))
+    case["text"] = some_text(r, graph, 0.3)
     return room_for(r, "parse_and_transform_paths", case, ["room"])
 
 
@@ -413,7 +418,7 @@ def parse_header(r):
 
 def run(r):
     graph = any_graph(r)
-    return {"text": list(any_text(r, graph, 0.2)), "protected": some_protected(r, graph)}
+    return {"text": some_text(r, graph, 0.2), "protected": some_protected(r, graph)}
 
 
 MAKERS = {op: globals()[op] for op in lines.SHAPES}

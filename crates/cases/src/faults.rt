@@ -6,7 +6,7 @@ ghost use Prim.Native.Nat.{min};
 ghost use mathlib.Core.Path.{_≡_};
 ghost use Rattle.cases.specs.Faults.{mostOf, lengthFault, byteFault, itemFault, faultOf};
 
-// Letters of a graph, and bytes of room.
+// Text or the letters of a graph, and bytes of room.
 pub const LETTERS: u8 = b't';
 
 pub const BYTES: u8 = b'b';

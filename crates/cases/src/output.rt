@@ -100,12 +100,12 @@ fn put_run(out: &mut [u8], at: usize, value: u64, n: u64) -> usize
     put_number(out, from, n)
 }
 
-// A lent array: a space, its length, then its numbers, equal ones in a row as a run.
-pub fn put_array(out: &mut [u8], at: usize, numbers: &[u64]) -> usize
+// Numbers with a space before each, equal ones in a row as a run.
+pub fn put_elements(out: &mut [u8], at: usize, numbers: &[u64]) -> usize
     requires { ⌜ Room at (now out) ⌝ }
     ensures { λ r. ⌜ Room r (now (out .exit)) ⌝ }
 {
-    let mut to = put_next(out, at, numbers.len() as u64);
+    let mut to = at;
     let mut i: usize = 0;
     while i < numbers.len() {
         let n = run(numbers, i);
@@ -113,6 +113,15 @@ pub fn put_array(out: &mut [u8], at: usize, numbers: &[u64]) -> usize
         i += n;
     }
     to
+}
+
+// A lent array: a space, its length, then its numbers.
+pub fn put_array(out: &mut [u8], at: usize, numbers: &[u64]) -> usize
+    requires { ⌜ Room at (now out) ⌝ }
+    ensures { λ r. ⌜ Room r (now (out .exit)) ⌝ }
+{
+    let to = put_next(out, at, numbers.len() as u64);
+    put_elements(out, to, numbers)
 }
 
 // The arrays among the first k items of a case, as they were given.

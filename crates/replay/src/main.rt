@@ -1,7 +1,9 @@
 // Replays cases: reads each, calls the public operation, prints what it answers and every lent array after the call
 // (docs/REPLAY.md).
 mod changing;
-mod reading;
+mod parsers;
+mod printers;
+mod readers;
 mod rooms;
 
 use cases::input;
@@ -27,11 +29,11 @@ fn answer(name: &[u8], numbers: &[u64], text: &mut [u8], out: &mut [u8], at: usi
     ensures { λ r. ⌜ Room r (now (out .exit)) ⌝ }
 {
     if input::same_word(name, b"live_letters") {
-        return reading::run(reading::LIVE_LETTERS, numbers, b"atannn", text, out, at);
+        return readers::run(readers::LIVE_LETTERS, numbers, b"atannn", text, out, at);
     }
     if input::same_word(name, b"get_shared_prefix") {
-        return reading::run(
-            reading::GET_SHARED_PREFIX,
+        return readers::run(
+            readers::GET_SHARED_PREFIX,
             numbers,
             b"atannnab",
             text,
@@ -40,11 +42,11 @@ fn answer(name: &[u8], numbers: &[u64], text: &mut [u8], out: &mut [u8], at: usi
         );
     }
     if input::same_word(name, b"spell_walk") {
-        return reading::run(reading::SPELL_WALK, numbers, b"atannnab", text, out, at);
+        return readers::run(readers::SPELL_WALK, numbers, b"atannnab", text, out, at);
     }
     if input::same_word(name, b"check_transform") {
-        return reading::run(
-            reading::CHECK_TRANSFORM,
+        return readers::run(
+            readers::CHECK_TRANSFORM,
             numbers,
             b"atannnatannnaanna",
             text,
@@ -103,6 +105,36 @@ fn that_changes(name: &[u8], numbers: &[u64], text: &mut [u8], out: &mut [u8], a
             out,
             at,
         );
+    }
+    on_text(name, numbers, text, out, at)
+}
+
+// The same for operations on text.
+fn on_text(name: &[u8], numbers: &[u64], text: &mut [u8], out: &mut [u8], at: usize) -> usize
+    requires { ⌜ Room at (now out) ⌝ }
+    ensures { λ r. ⌜ Room r (now (out .exit)) ⌝ }
+{
+    if input::same_word(name, b"read_gfa") {
+        return parsers::run(parsers::READ_GFA, numbers, b"trtr", text, out, at);
+    }
+    if input::same_word(name, b"parse_header") {
+        return parsers::run(parsers::PARSE_HEADER, numbers, b"tt", text, out, at);
+    }
+    if input::same_word(name, b"print_active_subgraph") {
+        return printers::run(printers::SUBGRAPH, numbers, b"atannnb", text, out, at);
+    }
+    if input::same_word(name, b"print_transformations") {
+        return printers::run(
+            printers::TRANSFORMATIONS,
+            numbers,
+            b"atannnaannb",
+            text,
+            out,
+            at,
+        );
+    }
+    if input::same_word(name, b"parse_and_transform_paths") {
+        return printers::run(printers::PATHS, numbers, b"tatannnaannb", text, out, at);
     }
     output::put_text(out, at, b"bad operation\n")
 }

@@ -2,17 +2,14 @@ use Prim.Native.Nat.{_-_, _≤_}
 use mathlib.Core.Path.{_≡_}
 use borrow.Author.Needs.{needs}
 use lib.ListN.{length}
-use Rattle.cases.proofs.output.put_array.Statement.{statement}
-use Rattle.cases.proofs.output.put_array.Tie as tie
+use Rattle.cases.proofs.output.put_elements.Statement.{statement}
+use Rattle.cases.proofs.output.put_elements.Tie as tie
 
 abbrev Inv-loop : tie.InvT-loop
 Inv-loop out₀ at numbers to₀ i₀ out to i = (i ≤ length numbers) × (to ≤ length out) × (length out ≡ length out₀)
 
 abbrev μ-loop : tie.MeasureT-loop
 μ-loop out₀ at numbers to₀ i₀ out to i = length numbers - i
-
-put-next-requires : tie.Need-put-next-requires Inv-loop μ-loop
-put-next-requires c κs = search needs
 
 loop-holds : tie.Need-loop-holds Inv-loop μ-loop
 loop-holds c = search needs
@@ -44,13 +41,12 @@ same-length c = search needs
 returns : tie.Need-returns Inv-loop μ-loop
 returns c = search needs
 
-pub put-array-spec : {M : Type 1} → statement M
-put-array-spec =
+pub put-elements-spec : {M : Type 1} → statement M
+put-elements-spec =
     tie.close
     (tie.spec
     Inv-loop
     μ-loop
-    put-next-requires
     loop-holds
     run-requires
     mul-put-run
