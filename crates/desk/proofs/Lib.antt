@@ -1,3 +1,4 @@
 pub mod Front
 pub mod Pages
 pub mod Stages
+pub mod Theorems
