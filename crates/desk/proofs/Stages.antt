@@ -27,7 +27,7 @@ use Rattle.walking.specs.Expand.{expandOutcome}
 use Rattle.checking.specs.CheckTransform.{Lent, lent}
 use Rattle.desk.specs.Page.{pageOutcome}
 use Rattle.desk.specs.declared.work.Done.{Done}
-use Rattle.desk.specs.Desk.{Told, told, refusal, ofText, ofProtected, ofRoom, goesOn, judged, noEvents, takenOutcome, tellOutcome, expandOutcomeThen, driveThen, layThen, deskOutcome}
+use Rattle.desk.specs.Desk.{Told, told, Finished, finished, finishOutcome, refusal, ofText, ofProtected, ofRoom, goesOn, judged, noEvents, takenOutcome, tellOutcome, expandOutcomeThen, driveThen, layThen, deskOutcome}
 
 -- a refusal tells of no bytes
 pub refusal-inside : (source number : ℕ) (r : Done) (n m : ℕ) → r ≡ refusal source number → (r .page ≤ n) × (r .table ≤ m)
@@ -36,23 +36,23 @@ refusal-inside source number r n m e =
     let t : r .table ≡ 0 = ap (λ (d : Done). d .table) e in
     (omega (arith, p), omega (arith, t))
 
-module _ (text : List ℕ) (old new : Lent) (rules steps : List ℕ) (u : Used) (protected : List ℕ) (check : Bool) (stopped : ℕ) (page table : List ℕ) where
-  abbrev whole : Told
-  whole = tellOutcome text old new rules steps u protected check stopped page table
+module _ (len : ℕ) (old new : Lent) (rules steps : List ℕ) (u : Used) (protected : List ℕ) (check : Bool) (stopped : ℕ) (table : List ℕ) (q : Written) (ys : List ℕ) (f : outcome q ys ≡ tableOutcome (old .nodes) (old .letters) (old .links) (old .counts) rules steps u table) where
+  pub no-table : (d : Done) → d ≡ refusal ofRoom (q .number) → (q .number ≡ 0 → ⊥) → finished d ys ≡ finishOutcome len old new rules steps u protected check stopped table
+  unfolding finishOutcome
+  no-table d g w = rw (← f, ne-eqb (q .number) 0 w) (ap (λ (x : Done). finished x ys) g)
 
-  module _ (r : Written) (xs : List ℕ) (e : outcome r xs ≡ pageOutcome text old new rules steps u page) where
-    pub no-page : (d : Done) → d ≡ refusal ofRoom (r .number) → (r .number ≡ 0 → ⊥) → told d xs table ≡ whole
-    unfolding tellOutcome
-    no-page d f z = rw (← e, ne-eqb (r .number) 0 z) (ap (λ (x : Done). told x xs table) f)
+  pub finishes : (v : Verdict) → v ≡ judged check old new rules steps u protected → q .number ≡ 0 → finished (record { number = 0; source = 0; stopped = stopped; page = len; table = q .len; verdict = v }) ys ≡ finishOutcome len old new rules steps u protected check stopped table
+  unfolding finishOutcome
+  finishes v g w = rw (← f, w, ← g)
 
-    module _ (z : r .number ≡ 0) (q : Written) (ys : List ℕ) (f : outcome q ys ≡ tableOutcome (old .nodes) (old .letters) (old .links) (old .counts) rules steps u table) where
-      pub no-table : (d : Done) → d ≡ refusal ofRoom (q .number) → (q .number ≡ 0 → ⊥) → told d xs ys ≡ whole
-      unfolding tellOutcome
-      no-table d g w = rw (← e, ← f, z, ne-eqb (q .number) 0 w) (ap (λ (x : Done). told x xs ys) g)
+module _ (text : List ℕ) (old new : Lent) (rules steps : List ℕ) (u : Used) (protected : List ℕ) (check : Bool) (stopped : ℕ) (page table : List ℕ) (r : Written) (xs : List ℕ) (e : outcome r xs ≡ pageOutcome text old new rules steps u page) where
+  pub no-page : (d : Done) → d ≡ refusal ofRoom (r .number) → (r .number ≡ 0 → ⊥) → told d xs table ≡ tellOutcome text old new rules steps u protected check stopped page table
+  unfolding tellOutcome
+  no-page d f z = rw (← e, ne-eqb (r .number) 0 z) (ap (λ (x : Done). told x xs table) f)
 
-      pub tells : (v : Verdict) → v ≡ judged check old new rules steps u protected → q .number ≡ 0 → told (record { number = 0; source = 0; stopped = stopped; page = r .len; table = q .len; verdict = v }) xs ys ≡ whole
-      unfolding tellOutcome
-      tells v g w = rw (← e, ← f, z, w, ← g)
+  pub tells : (d : Done) (ys : List ℕ) → finished d ys ≡ finishOutcome (r .len) old new rules steps u protected check stopped table → r .number ≡ 0 → told d xs ys ≡ tellOutcome text old new rules steps u protected check stopped page table
+  unfolding tellOutcome
+  tells d ys f z = rw (← e, z) (ap (λ (x : Finished). told (x .answer) xs (x .table)) f)
 
 module _ (text : List ℕ) (old new : Lent) (eventRules eventSteps : List ℕ) (u : Used) (protected : List ℕ) (check : Bool) (stopped : ℕ) (rules steps page table : List ℕ) (r : Expanded) (xs ys : List ℕ) (e : expand.outcome r xs ys ≡ expandOutcome eventRules eventSteps u rules steps) where
   pub no-expansion : (d : Done) → d ≡ refusal ofRoom (r .number) → (r .number ≡ 0 → ⊥) → told d page table ≡ expandOutcomeThen text old new eventRules eventSteps u protected check stopped rules steps page table

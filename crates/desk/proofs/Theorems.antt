@@ -30,7 +30,7 @@ use Rattle.driver.specs.Outcome as driver
 use Rattle.folding.specs.CollapseAll.{collapseAllOutcome}
 use Rattle.walking.specs.Expand as walking
 use Rattle.walking.specs.Expand.{expandOutcome}
-use Rattle.desk.specs.Desk.{Told, told, refusal, ofText, ofProtected, ofRoom, goesOn, judged, noEvents, takenOutcome, tellOutcome, expandOutcomeThen, driveThen, layThen, deskOutcome}
+use Rattle.desk.specs.Desk.{Told, told, Finished, finished, finishOutcome, refusal, ofText, ofProtected, ofRoom, goesOn, judged, noEvents, takenOutcome, tellOutcome, expandOutcomeThen, driveThen, layThen, deskOutcome}
 
 -- not refused, it wrote this text at the front of its room
 pub record Wrote (text : List ℕ) (o : Outcome) : Type 0 where
@@ -139,9 +139,9 @@ module _ (text : List ℕ) (old new : Lent) (rules steps : List ℕ) (u : Used) 
   abbrev t : Outcome
   t = tableOutcome (old .nodes) (old .letters) (old .links) (old .counts) rules steps u table
 
-  abbrev made : Told
-  made =
-      told
+  abbrev ended : Finished
+  ended =
+      finished
       (record {
         number = 0;
         source = 0;
@@ -150,16 +150,19 @@ module _ (text : List ℕ) (old new : Lent) (rules steps : List ℕ) (u : Used) 
         table = t .answer .len;
         verdict = judged check old new rules steps u protected;
       })
-      (p .room) (t .room)
+      (t .room)
 
   abbrev Handed : Told → Type 0
   Handed o = o .answer .number ≡ 0 → Hands (pageText text (graphIn old) (graphIn new) (listOf rules steps u)) (tableText (graphIn old) (listOf rules steps u)) o
 
+  abbrev after : Finished → Told
+  after f = told (f .answer) (p .room) (f .table)
+
   pub tell-hands : Handed (tellOutcome text old new rules steps u protected check stopped page table)
-  unfolding tellOutcome
+  unfolding tellOutcome finishOutcome
   tell-hands = by (eqb (p .answer .number) 0) refl
     where
-      last : p .answer .number ≡ 0 → (b : Bool) → eqb (t .answer .number) 0 ≡ b → Handed (cond (not b) (told (refusal ofRoom (t .answer .number)) (p .room) (t .room)) made)
+      last : p .answer .number ≡ 0 → (b : Bool) → eqb (t .answer .number) 0 ≡ b → Handed (after (cond (not b) (finished (refusal ofRoom (t .answer .number)) (t .room)) ended))
       last z true q e =
           record {
             page-is = whole (page-writes text old rules steps u new page z);
@@ -167,7 +170,7 @@ module _ (text : List ℕ) (old new : Lent) (rules steps : List ℕ) (u : Used) 
           }
       last z false q e = absurd (eqb-false (t .answer .number) 0 q e)
 
-      by : (b : Bool) → eqb (p .answer .number) 0 ≡ b → Handed (cond (not b) (told (refusal ofRoom (p .answer .number)) (p .room) table) (cond (not (eqb (t .answer .number) 0)) (told (refusal ofRoom (t .answer .number)) (p .room) (t .room)) made))
+      by : (b : Bool) → eqb (p .answer .number) 0 ≡ b → Handed (cond (not b) (told (refusal ofRoom (p .answer .number)) (p .room) table) (after (cond (not (eqb (t .answer .number) 0)) (finished (refusal ofRoom (t .answer .number)) (t .room)) ended)))
       by true q e = last (omega (arith, tests)) (eqb (t .answer .number) 0) refl e
       by false q e = absurd (eqb-false (p .answer .number) 0 q e)
 

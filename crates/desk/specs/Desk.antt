@@ -62,23 +62,37 @@ abbrev pub judged : Bool → Lent → Lent → List ℕ → List ℕ → Used �
 judged check old new rules steps u protected =
     cond check (checkOutcome old new rules steps u protected) (verdict 0 0 0)
 
--- graph and table are written before anything is told; the table is that of the old graph
-unfoldable pub tellOutcome : List ℕ → Lent → Lent → List ℕ → List ℕ → Used → List ℕ → Bool → ℕ → List ℕ → List ℕ → Told
-tellOutcome text old new rules steps u protected check stopped page table =
-    let p = pageOutcome text old new rules steps u page in
+-- the answer, and the room for the table
+pub record Finished : Type 0 where
+  pub answer : Done
+  pub table : List ℕ
+
+abbrev pub finished : Done → List ℕ → Finished
+finished answer table = record { answer = answer; table = table }
+
+-- after a page of this length the table, which is that of the old graph, and the checker
+unfoldable pub finishOutcome : ℕ → Lent → Lent → List ℕ → List ℕ → Used → List ℕ → Bool → ℕ → List ℕ → Finished
+finishOutcome len old new rules steps u protected check stopped table =
     let t = tableOutcome (old .nodes) (old .letters) (old .links) (old .counts) rules steps u table in
-    cond (not (eqb (p .answer .number) 0)) (told (refusal ofRoom (p .answer .number)) (p .room) table)
-    (cond (not (eqb (t .answer .number) 0)) (told (refusal ofRoom (t .answer .number)) (p .room) (t .room))
-    (told
+    cond (not (eqb (t .answer .number) 0)) (finished (refusal ofRoom (t .answer .number)) (t .room))
+    (finished
     (record {
       number = 0;
       source = 0;
       stopped = stopped;
-      page = p .answer .len;
+      page = len;
       table = t .answer .len;
       verdict = judged check old new rules steps u protected;
     })
-    (p .room) (t .room)))
+    (t .room))
+
+-- page and table are written before anything is told
+unfoldable pub tellOutcome : List ℕ → Lent → Lent → List ℕ → List ℕ → Used → List ℕ → Bool → ℕ → List ℕ → List ℕ → Told
+tellOutcome text old new rules steps u protected check stopped page table =
+    let p = pageOutcome text old new rules steps u page in
+    let f = finishOutcome (p .answer .len) old new rules steps u protected check stopped table in
+    cond (not (eqb (p .answer .number) 0)) (told (refusal ofRoom (p .answer .number)) (p .room) table)
+    (told (f .answer) (p .room) (f .table))
 
 -- the table from the events
 unfoldable pub expandOutcomeThen : List ℕ → Lent → Lent → List ℕ → List ℕ → Used → List ℕ → Bool → ℕ → List ℕ → List ℕ → List ℕ → List ℕ → Told

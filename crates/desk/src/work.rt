@@ -1,4 +1,5 @@
 // The run: read, collapse all, expand, write, check. Each stage ends in the next one.
+use crate::judging::judge;
 use crate::page;
 use crate::taking;
 use events::Used;
@@ -10,7 +11,7 @@ ghost use lib.ListN.{length};
 ghost use Rattle.reading.specs.Reading.{store};
 ghost use Rattle.checking.specs.CheckTransform.{lent};
 ghost use Rattle.collapsing.specs.Outcome as collapsing;
-ghost use Rattle.desk.specs.Desk.{told, refusal, goesOn, judged, tellOutcome, expandOutcomeThen, driveThen, layThen, deskOutcome, statusOf};
+ghost use Rattle.desk.specs.Desk.{told, finished, finishOutcome, refusal, goesOn, tellOutcome, expandOutcomeThen, driveThen, layThen, deskOutcome, statusOf};
 
 // What a refusal is of.
 pub const TEXT: u64 = 1;
@@ -60,8 +61,9 @@ fn goes_on(number: u64) -> bool
     number == 11
 }
 
-fn judge(
-    check: bool,
+// The table after a page of `len` bytes, then the checker.
+fn finish(
+    len: usize,
     old_nodes: &[u64],
     letters: &[u8],
     old_links: &[u64],
@@ -73,30 +75,48 @@ fn judge(
     steps: &[u64],
     u: Used,
     protected: &[u64],
-) -> Verdict
-    ensures { λ r. ⌜ r ≡ judged check (lent (now («old_nodes» .entry)) (now (letters .entry)) (now («old_links» .entry)) c) (lent (now (nodes .entry)) (now (letters .entry)) (now (links .entry)) d) (now (rules .entry)) (now (steps .entry)) u (now (protected .entry)) ⌝ }
+    check: bool,
+    stopped: u64,
+    table: &mut [u8],
+) -> Done
+    ensures { λ r. ⌜ finished r (now (table .exit)) ≡ finishOutcome len (lent (now («old_nodes» .entry)) (now (letters .entry)) (now («old_links» .entry)) c) (lent (now (nodes .entry)) (now (letters .entry)) (now (links .entry)) d) (now (rules .entry)) (now (steps .entry)) u (now (protected .entry)) check stopped (now (table .entry)) ⌝ }
+    ensures { λ r. ⌜ (r .page ≤ len) × (r .table ≤ length (now (table .exit))) ⌝ }
 {
-    if !check {
-        return Verdict {
-            number: 0,
-            first: 0,
-            second: 0,
-        };
+    let t = gfaffix::print_transformations::print_transformations(
+        old_nodes,
+        letters,
+        old_links,
+        c,
+        rules,
+        steps,
+        u,
+        table,
+    );
+    if t.number != 0 {
+        return refuse(ROOM, t.number);
     }
-    gfaffix::check_transform::check_transform(
+    let verdict = judge(
+        check,
         old_nodes,
         letters,
         old_links,
         c,
         nodes,
-        letters,
         links,
         d,
         rules,
         steps,
         u,
         protected,
-    )
+    );
+    Done {
+        number: 0,
+        source: 0,
+        stopped,
+        page: len,
+        table: t.len,
+        verdict,
+    }
 }
 
 fn tell(
@@ -137,21 +157,8 @@ fn tell(
     if p.number != 0 {
         return refuse(ROOM, p.number);
     }
-    let t = gfaffix::print_transformations::print_transformations(
-        old_nodes,
-        letters,
-        old_links,
-        c,
-        rules,
-        steps,
-        u,
-        table,
-    );
-    if t.number != 0 {
-        return refuse(ROOM, t.number);
-    }
-    let verdict = judge(
-        check,
+    finish(
+        p.len,
         old_nodes,
         letters,
         old_links,
@@ -163,15 +170,10 @@ fn tell(
         steps,
         u,
         protected,
-    );
-    Done {
-        number: 0,
-        source: 0,
+        check,
         stopped,
-        page: p.len,
-        table: t.len,
-        verdict,
-    }
+        table,
+    )
 }
 
 fn expand_then(
@@ -372,6 +374,7 @@ pub fn work(
 // How a run ends: 1 refused, also where the driver was stopped on its way; 3 where the checker found a fault; else 0.
 pub fn status(done: Done) -> u64
     ensures { λ r. ⌜ r ≡ statusOf done ⌝ }
+    ensures { λ r. ⌜ r ≤ 3 ⌝ }
 {
     if done.number != 0 {
         return 1;

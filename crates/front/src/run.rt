@@ -5,6 +5,7 @@ use crate::say;
 use cases::input::same_word;
 use desk::work::Done;
 use desk::work::PROTECTED;
+use desk::work::status;
 use request::ask;
 use request::ids;
 use request::ids::Listed;
@@ -12,13 +13,9 @@ use scanning::Verdict;
 ghost use Prim.Native.Nat.{_≤_};
 ghost use lib.ListN.{length};
 
-const DONE: u64 = 0;
-
 const REFUSED: u64 = 1;
 
 const UNUSABLE: u64 = 2;
-
-const WRONG: u64 = 3;
 
 // A protected list that could not be read.
 const UNREAD: u64 = 1;
@@ -58,13 +55,8 @@ fn conclude(words: &[u8], err: i32, d: Done) -> u64
 {
     if d.stopped != 0 {
         say::stopped(err, ask::first(words, ask::GRAPH), d.stopped);
-        return REFUSED;
     }
-    let v = d.verdict;
-    if v.number != 0 {
-        return WRONG;
-    }
-    DONE
+    status(d)
 }
 
 fn write(words: &[u8], out: i32, err: i32, page: &[u8], table: &[u8], d: Done) -> u64

@@ -1,6 +1,5 @@
 use mathlib.Core.Path.{_∙_}
 use borrow.Author.Tests.{eq-eqb, ne-eqb}
-use lib.ListN.{length}
 use borrow.Author.Needs.{needs}
 use Rattle.request.proofs.ask.role.Statement.{statement}
 use Rattle.request.proofs.ask.role.Tie as tie

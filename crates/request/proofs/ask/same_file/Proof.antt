@@ -1,4 +1,4 @@
-use mathlib.Core.Path.{_≡_, sym, ap, _∙_}
+use mathlib.Core.Path.{sym, ap, _∙_}
 use Rattle.request.specs.Words.{wordsOf, firstWord, isStandard}
 use Rattle.request.proofs.Turns.{out-standard, out-named}
 use borrow.Author.Needs.{needs}

@@ -1,7 +1,4 @@
-use mathlib.Core.Path.{_∙_, ap}
-use mathlib.Core.Bool.{Bool, not}
 use borrow.Author.Tests.{eq-eqb, ne-eqb}
-use lib.Dec.{eqb}
 use borrow.Author.Needs.{needs}
 use Rattle.request.proofs.ids.is_no_id.Statement.{statement}
 use Rattle.request.proofs.ids.is_no_id.Tie as tie

@@ -1,5 +1,4 @@
 use borrow.Author.Tests.{eq-eqb, ne-eqb}
-use borrow.Author.Needs.{needs}
 use Rattle.request.proofs.ids.says.Statement.{statement}
 use Rattle.request.proofs.ids.says.Tie as tie
 

@@ -1,8 +1,8 @@
 use mathlib.Core.Bool.{true, false}
 use borrow.Author.Needs.{needs}
 use borrow.Author.Tests.{not-true, not-false}
-use Rattle.desk.proofs.work.judge.Statement.{statement}
-use Rattle.desk.proofs.work.judge.Tie as tie
+use Rattle.desk.proofs.judging.judge.Statement.{statement}
+use Rattle.desk.proofs.judging.judge.Tie as tie
 
 returns : tie.Need-returns
 returns c = rw (not-true (c .before .before .before .before .before .before .before .before .before .args .check) (c .if1 .taken))
