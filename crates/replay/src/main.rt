@@ -1,16 +1,15 @@
 // Replays cases: reads each, calls the public operation, prints what it answers and every lent array after the call
 // (docs/REPLAY.md).
-mod changing;
-mod parsers;
-mod printers;
-mod readers;
-mod rooms;
-
 use cases::input;
 use cases::output;
 use cases::stream;
 use cases::stream::Source;
+use graph_runs::changing;
+use graph_runs::readers;
+use graph_runs::rooms;
 use libc::STDOUT_FILENO;
+use text_runs::parsers;
+use text_runs::printers;
 ghost use Prim.Native.Nat.{_≤_};
 ghost use lib.ListN.{length};
 ghost use Rattle.cases.specs.Answers.{Room};
