@@ -119,11 +119,13 @@ fn why_else(err: i32, error: i32) {
     io::write_all(err, b"the system refuses");
 }
 
+// Why a file cannot be read, and usage.
 pub fn unreadable(err: i32, name: &[u8], error: i32) {
     input_head(err, name);
     io::write_all(err, b"cannot be read: ");
     why(err, error);
     io::write_all(err, b"\n");
+    usage(err);
 }
 
 pub fn unwritable(err: i32, name: &[u8], error: i32) {
