@@ -53,7 +53,8 @@ refusal source number =
     record { number = number; source = source; stopped = 0; page = 0; table = 0; verdict = verdict 0 0 0 }
 
 -- 01 "Numbers that say no": a driver that is stopped on its way keeps what it made, so the run goes on with it. It is stopped
--- by 7 or 11 only; its other numbers are refusals before the first collapse.
+-- by 7 or 11 only; its other numbers are refusals before the first collapse. So is its 7 of more than 4,096 protected ids,
+-- which is not told apart here: the list that the program reads is refused before that (request, `Ids.antt`).
 abbrev pub goesOn : ℕ → Bool
 goesOn number = eqb number 0 || eqb number 7 || eqb number 11
 
