@@ -64,11 +64,11 @@ module _ (text : List ℕ) (old new : Lent) (eventRules eventSteps : List ℕ) (
   expands t f z = rw (← e, z) f
 
 module _ (text : List ℕ) (old : Lent) (new : collapsing.Lent) (protected : List ℕ) (check : Bool) (rules steps page table : List ℕ) (r : Driven) (l : collapsing.Lent) (e : driver.outcome r l ≡ collapseAllOutcome new (old .letters) (old .counts) noEvents protected) where
-  pub no-run : (d : Done) → d ≡ refusal ofProtected (r .number) → goesOn (r .number) ≡ false → told d page table ≡ driveThen text old new protected check rules steps page table
+  pub no-run : (d : Done) → d ≡ refusal ofProtected (r .number) → goesOn protected (r .number) ≡ false → told d page table ≡ driveThen text old new protected check rules steps page table
   unfolding driveThen
   no-run d f g = rw (← e, g) (ap (λ (x : Done). told x page table) f)
 
-  pub drives : (t : Told) → t ≡ expandOutcomeThen text old (lent (l .nodes) (old .letters) (l .links) (r .counts)) (l .rules) (l .steps) (r .used) protected check (r .number) rules steps page table → goesOn (r .number) ≡ true → t ≡ driveThen text old new protected check rules steps page table
+  pub drives : (t : Told) → t ≡ expandOutcomeThen text old (lent (l .nodes) (old .letters) (l .links) (r .counts)) (l .rules) (l .steps) (r .used) protected check (r .number) rules steps page table → goesOn protected (r .number) ≡ true → t ≡ driveThen text old new protected check rules steps page table
   unfolding driveThen
   drives t f g = rw (← e, g) f
 

@@ -186,12 +186,12 @@ module _ (page table : List ℕ) where
       by true q e = d e
       by false q e = absurd (eqb-false number 0 q e)
 
-  unless-stopped : (number : ℕ) (m n : List ℕ) (o : Told) → Ends o → Ends (cond (not (goesOn number)) (told (refusal ofProtected number) m n) o)
-  unless-stopped number m n o d = by (goesOn number) refl
+  unless-stopped : (protected : List ℕ) (number : ℕ) (m n : List ℕ) (o : Told) → Ends o → Ends (cond (not (goesOn protected number)) (told (refusal ofProtected number) m n) o)
+  unless-stopped protected number m n o d = by (goesOn protected number) refl
     where
-      by : (b : Bool) → goesOn number ≡ b → Ends (cond (not b) (told (refusal ofProtected number) m n) o)
+      by : (b : Bool) → goesOn protected number ≡ b → Ends (cond (not b) (told (refusal ofProtected number) m n) o)
       by true q e = d e
-      by false q e = never (sym (ap goesOn e) ∙ q)
+      by false q e = never (sym (ap (goesOn protected) e) ∙ q)
 
   unless-small : (b : Bool) (m n : List ℕ) (o : Told) → Ends o → Ends (cond b (told (refusal ofRoom 7) m n) o)
   unless-small true m n o d e = absurd (omega (arith, e))
@@ -229,6 +229,6 @@ module _ (text protected : List ℕ) (check : Bool) (rooms : Store) (large : col
       unless made-page made-table ofText (read .answer .number) page table _
       (unless-small made-page made-table (ltb (length (large .nodes)) (length (oldGraph .nodes))) page table _
       (unless-small made-page made-table (ltb (length (large .links)) (length (oldGraph .links))) page table _
-      (unless-stopped made-page made-table (driven .answer .number) page table _
+      (unless-stopped made-page made-table protected (driven .answer .number) page table _
       (unless made-page made-table ofRoom (rulesOut .answer .number) page table _
       (tell-hands text oldGraph newGraph (rulesOut .rules) (rulesOut .steps) (rulesOut .answer .used) protected check (driven .answer .number) page table)))))

@@ -1,9 +1,9 @@
 -- A run of the program, over the outcomes of the public operations: read, collapse all, expand, write, check.
 use Prim.Native.Nat.{ℕ}
 use mathlib.Core.Path.{_≡_, sym, _∙_}
-use mathlib.Core.Bool.{Bool, cond, not, _||_}
+use mathlib.Core.Bool.{Bool, cond, not, _&&_, _||_}
 use mathlib.Core.List.{List}
-use lib.Dec.{eqb, ltb}
+use lib.Dec.{eqb, leb, ltb}
 use lib.ListN.{length}
 use lib.Seq.{sets}
 use Rattle.store.specs.declared.Counts.{Counts}
@@ -53,10 +53,9 @@ refusal source number =
     record { number = number; source = source; stopped = 0; page = 0; table = 0; verdict = verdict 0 0 0 }
 
 -- 01 "Numbers that say no": a driver that is stopped on its way keeps what it made, so the run goes on with it. It is stopped
--- by 7 or 11 only; its other numbers are refusals before the first collapse. So is its 7 of more than 4,096 protected ids,
--- which is not told apart here: the list that the program reads is refused before that (request, `Ids.antt`).
-abbrev pub goesOn : ℕ → Bool
-goesOn number = eqb number 0 || eqb number 7 || eqb number 11
+-- by 7 or 11 only; its other numbers are refusals before the first collapse, and so is its 7 of more than 4,096 protected ids
+abbrev pub goesOn : List ℕ → ℕ → Bool
+goesOn protected number = eqb number 0 || (leb (length protected) 4096 && (eqb number 7 || eqb number 11))
 
 -- the checker, on the old graph, the new one and the table, where it is asked for
 abbrev pub judged : Bool → Lent → Lent → List ℕ → List ℕ → Used → List ℕ → Verdict
@@ -110,7 +109,7 @@ unfoldable pub driveThen : List ℕ → Lent → collapsing.Lent → List ℕ �
 driveThen text old new protected check rules steps page table =
     let d = collapseAllOutcome new (old .letters) (old .counts) noEvents protected in
     let made = lent (d .arrays .nodes) (old .letters) (d .arrays .links) (d .answer .counts) in
-    cond (not (goesOn (d .answer .number))) (told (refusal ofProtected (d .answer .number)) page table)
+    cond (not (goesOn protected (d .answer .number))) (told (refusal ofProtected (d .answer .number)) page table)
     (expandOutcomeThen text old made (d .arrays .rules) (d .arrays .steps) (d .answer .used) protected check (d .answer .number) rules steps page table)
 
 -- the old graph at the front of larger rooms; 7 where they are shorter

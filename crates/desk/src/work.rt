@@ -49,11 +49,14 @@ fn refuse(source: u64, number: u64) -> Done
     }
 }
 
-fn goes_on(number: u64) -> bool
-    ensures { λ r. ⌜ r ≡ goesOn number ⌝ }
+fn goes_on(protected: &[u64], number: u64) -> bool
+    ensures { λ r. ⌜ r ≡ goesOn (now (protected .entry)) number ⌝ }
 {
     if number == 0 {
         return true;
+    }
+    if 4096 < protected.len() {
+        return false;
     }
     if number == 7 {
         return true;
@@ -255,7 +258,7 @@ fn drive_then(
         protected,
     );
     let number = r.number;
-    if !goes_on(number) {
+    if !goes_on(protected, number) {
         return refuse(PROTECTED, number);
     }
     expand_then(
