@@ -11,7 +11,7 @@ use lib.Dec.{eqb}
 use lib.ListN.{length, take, getD}
 use Rattle.kit.specs.Loops.{all}
 use Rattle.kit.proofs.Bools.{never, and-true-l, and-true-r}
-use Rattle.kit.proofs.Meaning.{all-mem, all-at}
+use Rattle.kit.proofs.Meaning.{all-mem, all-at, not-all}
 use Rattle.letters.specs.Letters.{isLetter, upperOf, sameLetter, isBase}
 use Rattle.letters.specs.Sequences.{allLetters}
 use Rattle.affix.specs.Prefix.{beginsWith, shared, sharedPrefix}
@@ -74,14 +74,6 @@ Differs s ss n = (t : List ℕ) × List·Memᴰ t ss × (n < length t) × (sameL
 
 abbrev pub Ends : List ℕ → List (List ℕ) → ℕ → Type 0
 Ends s ss n = RunsOut s ss n ⊎ (NoBase s n ⊎ Differs s ss n)
-
-not-all : {A : Type 0} (p : A → Bool) (rs : List A) → all p rs ≡ false → (a : A) × List·Memᴰ a rs × (p a ≡ false)
-not-all p [] e = never e
-not-all {A} p (a ∷ rs) e = by (p a) refl e (not-all p rs)
-  where
-    by : (b : Bool) → p a ≡ b → (b && all p rs) ≡ false → (all p rs ≡ false → (x : A) × List·Memᴰ x rs × (p x ≡ false)) → (x : A) × List·Memᴰ x (a ∷ rs) × (p x ≡ false)
-    by true t f go = let r = go f in (r .0, List·Memᴰ·tail (r .1), r .2)
-    by false t f go = (a, List·Memᴰ·head refl, t)
 
 ends-first : (a : ℕ) (s : List ℕ) (ss : List (List ℕ)) (t : List ℕ) → List·Memᴰ t ss → beginsWith a t ≡ false → Ends (a ∷ s) ss 0
 ends-first a s ss [] m e = inl ([], List·Memᴰ·tail m, omega arith)

@@ -2,7 +2,7 @@
 use Prim.Native.Nat.{ℕ}
 use mathlib.Core.Path.{_≡_, refl, sym, ap, _∙_}
 use mathlib.Core.Bool.{Bool, true, false, cond, _||_}
-use mathlib.Core.List.{List, [], _∷_, _++_, List·Memᴰ, List·Memᴰ·head, List·Memᴰ·tail}
+use mathlib.Core.List.{List, [], _∷_, _++_}
 use native.Mathlib.Omega.{arith}
 use lib.ListN.{length}
 use Rattle.kit.specs.Loops.{any, firstOr}
@@ -12,6 +12,7 @@ use Rattle.store.specs.Graph.{Graph}
 use Rattle.choosing.specs.Scan.{mustCollapse}
 use Rattle.choosing.specs.Search.{Front}
 use Rattle.choosing.proofs.Trying.{must-says}
+use Rattle.kit.proofs.Meaning.{first-some}
 
 module _ {A : Type 0} (p : A → Bool) where
   -- none passes, or the first that does is one of them
@@ -22,14 +23,6 @@ module _ {A : Type 0} (p : A → Bool) where
       by : (b : Bool) → (b || any p xs) ≡ false → (any p xs ≡ false → firstOr d p xs ≡ d) → cond b x (firstOr d p xs) ≡ d
       by true q go = never q
       by false q go = go q
-
-  pub first-some : (d : A) (xs : List A) → any p xs ≡ true → List·Memᴰ (firstOr d p xs) xs × (p (firstOr d p xs) ≡ true)
-  first-some d [] t = never (sym t)
-  first-some d (x ∷ xs) t = by (p x) refl t (first-some d xs)
-    where
-      by : (b : Bool) → p x ≡ b → (b || any p xs) ≡ true → (any p xs ≡ true → List·Memᴰ (firstOr d p xs) xs × (p (firstOr d p xs) ≡ true)) → List·Memᴰ (cond b x (firstOr d p xs)) (x ∷ xs) × (p (cond b x (firstOr d p xs)) ≡ true)
-      by true e q go = (List·Memᴰ·head refl, e)
-      by false e q go = (List·Memᴰ·tail (go q .0), go q .1)
 
   -- of one part and then the next
   first-append : (d : A) (xs ys : List A) → firstOr d p (xs ++ ys) ≡ firstOr (firstOr d p ys) p xs

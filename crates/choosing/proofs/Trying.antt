@@ -17,7 +17,7 @@ use Rattle.kit.proofs.Writes.{sets-front}
 use Rattle.handle.specs.declared.Handle.{Handle}
 use Rattle.handle.specs.Handle.{idOf}
 use Rattle.store.specs.Graph.{Node, Graph}
-use Rattle.store.specs.Views.{named, stored, unmarkedNode, liveHere, liveNode}
+use Rattle.store.specs.Views.{named, stored, liveNode}
 use Rattle.sides.specs.Sides.{rightOf}
 use Rattle.sides.proofs.Sides.{side-live}
 use Rattle.affix.specs.Prefix.{membersOnce, groupPrefix, handlesOf}
@@ -27,6 +27,7 @@ use Rattle.groups.proofs.Groups.{group-member}
 use Rattle.groups.proofs.Placing.{length-arranged, length-written}
 use Rattle.choosing.specs.Scan.{isProtected, mustCollapse}
 use Rattle.choosing.specs.Search.{tried, Front}
+use Rattle.store.proofs.Lookups.{live-stored}
 
 -- what the tests of a group of two or more tell, one after another
 module _ (g : Graph) (protected : List ℕ) (ms : List Handle) (two : 2 ≤ length ms) where
@@ -71,12 +72,6 @@ says-must g protected ms k =
 pub numbers-back : (ms : List Handle) → handlesOf (numbers ms) ≡ ms
 numbers-back [] = refl
 numbers-back (m ∷ ms) = ap (λ (t : List Handle). m ∷ t) (numbers-back ms)
-
--- a live node is stored
-live-stored : (id : ℕ) (rs : List Node) → liveNode id rs ≡ true → stored id rs ≡ true
-live-stored id rs t =
-    let r = any-some (liveHere id) rs t in
-    any-mem (named id) (r .1) (and-true-l (named id (r .0)) (unmarkedNode (r .0)) (r .2))
 
 -- without one that is there, fewer are left
 fewer : {A : Type 0} (p : A → Bool) (rs : List A) → length (keep (λ a. not (p a)) rs) ≤ length rs

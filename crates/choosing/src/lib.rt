@@ -11,24 +11,11 @@ ghost use Rattle.handle.specs.Handle.{maxId, isId, pack};
 ghost use Rattle.store.specs.Graph.{nodesOf, graphOf};
 ghost use Rattle.formed.specs.WellFormed.{wellFormed};
 ghost use Rattle.sides.specs.Sides.{nextAbove};
-ghost use Rattle.sides.specs.Search.{lower, lowest};
+ghost use Rattle.sides.specs.Search.{lowest};
 ghost use Rattle.affix.specs.Prefix.{handlesOf};
 ghost use Rattle.affix.specs.Reading.{Readable};
 ghost use Rattle.choosing.specs.Scan.{scanOrder, isProtected, mustCollapse, nextGroup};
 ghost use Rattle.choosing.specs.Search.{tried, firstGroup, Front};
-
-// The lower of n, where it is above `above`, and the best so far; 0 is none so far.
-fn lower(above: u64, n: u64, best: u64) -> u64
-    ensures { λ r. ⌜ r ≡ lower above n best ⌝ }
-{
-    if n <= above {
-        return best;
-    }
-    if best == 0 || n < best {
-        return n;
-    }
-    best
-}
 
 // The same with both directions of a node.
 fn lower_of_both(id: u64, above: u64, best: u64) -> u64
@@ -37,7 +24,7 @@ fn lower_of_both(id: u64, above: u64, best: u64) -> u64
 {
     let there = Handle::forward(id);
     let back = Handle::reverse(id);
-    lower(above, there.packed, lower(above, back.packed, best))
+    sides::lower(above, there.packed, sides::lower(above, back.packed, best))
 }
 
 // "Live nodes by rising id, forward then reverse" is the order of packed numbers: the next one above a number; 0 where there is none.

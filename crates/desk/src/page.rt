@@ -19,7 +19,7 @@ fn print_head(text: &[u8], out: &mut [u8]) -> Written
     if out.len() <= header.len() {
         return Written { number: 7, len: 0 };
     }
-    let at = put::put_bytes(out, 0, header);
+    let at = kit::put_bytes(out, 0, header);
     let len = put::put_byte(out, at, 10);
     Written { number: 0, len }
 }

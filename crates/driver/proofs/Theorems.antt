@@ -9,7 +9,7 @@ use borrow.Author.Tests.{ne-eqb, le-ltb}
 use lib.ListN.{length}
 use Rattle.kit.specs.Loops.{lines}
 use Rattle.kit.proofs.Bools.{never, and-true-r}
-use Rattle.kit.proofs.Meaning.{all-of, none-mem}
+use Rattle.kit.proofs.Meaning.{all-of, none-mem, first-some}
 use Rattle.kit.proofs.Members.{in-lines, of-lines}
 use Rattle.letters.specs.Letters.{sameLetter}
 use Rattle.handle.specs.declared.Handle.{Handle}
@@ -25,7 +25,7 @@ use Rattle.choosing.specs.Scan.{scanOrder, mustCollapse, nextGroup}
 use Rattle.driver.specs.Drive.{prefixLen}
 use Rattle.choosing.proofs.Along.{scan-live, live-scan}
 use Rattle.choosing.proofs.Trying.{Must, must-says, says-must, group-live}
-use Rattle.choosing.proofs.Firsts.{first-some, none-must, some-must}
+use Rattle.choosing.proofs.Firsts.{none-must, some-must}
 
 module _ (g : Graph) (protected : List ℕ) where
   -- all that are looked at

@@ -17,7 +17,7 @@ stepAt l i = step (getD l (2 * i) 0) (getD l (2 * i + 1) 0)
 pub rule-at : (l : List ℕ) (i : ℕ) → unpackRule (drop (4 * i) l) ≡ ruleAt l i
 rule-at l i = simp (getD-drop, add-zero)
 
-step-at : (l : List ℕ) (i : ℕ) → unpackStep (drop (2 * i) l) ≡ stepAt l i
+pub step-at : (l : List ℕ) (i : ℕ) → unpackStep (drop (2 * i) l) ≡ stepAt l i
 step-at l i = simp (getD-drop, add-zero)
 
 module _ (n i : ℕ) (l : List ℕ) (h : i < n) where

@@ -1,4 +1,5 @@
 pub mod Fields
 pub mod Order
 pub mod Says
+pub mod Walks
 pub mod Worked

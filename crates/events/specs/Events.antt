@@ -1,6 +1,6 @@
 -- Rules and their steps, as they lie in flat arrays: 01 "Prefix, groups, collapse", events. An event list and a table have
 -- the same form.
-use Prim.Native.Nat.{ℕ, _≤_}
+use Prim.Native.Nat.{ℕ, _+_, _≤_}
 use mathlib.Core.Path.{_≡_, refl}
 use mathlib.Core.Bool.{Bool, _&&_}
 use mathlib.Core.List.{List, [], _∷_, _++_}
@@ -8,7 +8,7 @@ use native.Mathlib.Omega.{arith}
 use lib.Dec.{eqb}
 use lib.ListN.{length, take, drop, getD}
 use Rattle.kit.specs.Layout.{Layout, decode}
-use Rattle.kit.specs.Loops.{find}
+use Rattle.kit.specs.Loops.{find, lines}
 use Rattle.kit.specs.declared.Found.{Found}
 use Rattle.handle.specs.declared.Handle.{Handle}
 use Rattle.handle.specs.Handle.{flip}
@@ -133,6 +133,15 @@ pub record Event : Type 0 where
 
 abbrev pub event : ℕ → ℕ → List Step → Event
 event id len walk = record { id = id; len = len; walk = walk }
+
+-- the walks of events, one after another
+abbrev pub walksOf : List Event → List Step
+walksOf es = lines (λ e. e .walk) es
+
+-- the events' rules, whose steps start at the step `first`
+abbrev pub rulesFrom : ℕ → List Event → List Rule
+rulesFrom first [] = []
+rulesFrom first (e ∷ es) = rule (e .id) (e .len) first (length (e .walk)) ∷ rulesFrom (first + length (e .walk)) es
 
 -- appended to a list, one after another
 abbrev pub append : Rules → Event → Rules

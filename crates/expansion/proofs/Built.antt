@@ -11,13 +11,14 @@ use Rattle.kit.proofs.Bools.{same-test}
 use Rattle.kit.proofs.Laws.{length-decode, length-encode, then-decode, then-length}
 use Rattle.kit.proofs.Writes.{sets-front}
 use Rattle.events.specs.declared.Used.{Used}
-use Rattle.events.specs.Events.{Rule, Rules, ruleLayout, stepLayout, rulesOf, stepsOf, listOf}
+use Rattle.events.specs.Events.{Rule, Rules, ruleLayout, stepLayout, rulesOf, stepsOf, listOf, walksOf, rulesFrom}
 use Rattle.events.specs.WellFormed.{roomForRules}
 use Rattle.events.proofs.Says.{table-room, room-says, says-room}
 use Rattle.expansion.specs.Building.{Measured, Fillable, Buildable, TableIn}
 use Rattle.expansion.specs.Expansion.{expanded}
-use Rattle.expansion.specs.Table.{walksOf, rulesFrom, rulesBy, eventsIn}
-use Rattle.expansion.proofs.Tables.{table-is, length-rules, length-events, lengthsOf, sizes-exact, sum-lengths, rules-by}
+use Rattle.expansion.specs.Table.{rulesBy, eventsIn}
+use Rattle.expansion.proofs.Tables.{table-is, length-events, lengthsOf, sizes-exact, sum-lengths, rules-by}
+use Rattle.events.proofs.Walks.{length-rules}
 
 module _ (rules steps : List ℕ) (c : Used) where
   events-count : length (eventsIn rules steps c) ≡ c .rules

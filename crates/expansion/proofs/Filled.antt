@@ -4,29 +4,23 @@ use mathlib.Core.Path.{_≡_, refl, sym, ap, ap₂, _∙_}
 use mathlib.Core.List.{List, [], _∷_, _++_, append-assoc}
 use native.Mathlib.Omega.{arith}
 use lib.ListN.{length, take, drop, getD, set, length-append}
-use lib.Seq.{sets, sets-eq, length-sets, set-comm, length-take-le, drop-at}
+use lib.Seq.{sets, sets-eq, length-sets, length-take-le, drop-at}
 use Rattle.kit.specs.Layout.{decode, encode}
 use Rattle.kit.proofs.Laws.{length-encode, decode-take, decode-encode, encode-append}
-use Rattle.kit.proofs.Writes.{sets-append}
+use Rattle.kit.proofs.Writes.{sets-append, set-past}
 use Rattle.events.specs.declared.Used.{Used}
-use Rattle.events.specs.Events.{Rule, Step, Event, stepLayout, rulesOf, stepsOf}
+use Rattle.events.specs.Events.{Rule, Step, Event, stepLayout, rulesOf, stepsOf, walksOf, rulesFrom}
 use Rattle.events.proofs.Fields.{left-rule}
 use Rattle.events.proofs.Order.{table-inside}
 use Rattle.events.proofs.Says.{table-room}
 use Rattle.expansion.specs.Building.{Fillable}
 use Rattle.expansion.specs.Expansion.{expandWalk, expandFrom}
 use Rattle.expansion.specs.Filling.{partOf, eventWalk, walkIn, Ready}
-use Rattle.expansion.specs.Table.{walksOf, rulesFrom, eventsIn}
+use Rattle.expansion.specs.Table.{eventsIn}
 use Rattle.expansion.proofs.Lengths.{event-next, event-none}
 use Rattle.expansion.proofs.Order.{order-from, memo-walk}
 use Rattle.expansion.proofs.Places.{drop-decode}
 use Rattle.expansion.proofs.Tables.{rules-from, walks-part, lies-from}
-
--- a store past a run of stores, and a run past a run
-set-past : (l : List ℕ) (i : ℕ) (vs : List ℕ) (k x : ℕ) → i + length vs ≤ k → sets (set l k x) i vs ≡ set (sets l i vs) k x
-set-past l i [] k x h = refl
-set-past l i (v ∷ vs) k x h =
-    ap (λ (m : List ℕ). sets m (suc i) vs) (set-comm l k i x v (omega arith)) ∙ set-past (set l i v) (suc i) vs k x (omega arith)
 
 sets-past : (l : List ℕ) (i : ℕ) (a : List ℕ) (k : ℕ) (b : List ℕ) → i + length a ≤ k → sets (sets l k b) i a ≡ sets (sets l i a) k b
 sets-past l i a k [] h = refl

@@ -15,15 +15,15 @@ use Rattle.kit.specs.Loops.{findFrom}
 use Rattle.kit.proofs.Laws.{length-decode, left-none}
 use Rattle.kit.proofs.Steps.{found-at}
 use Rattle.events.specs.declared.Used.{Used}
-use Rattle.events.specs.Events.{Rule, Step, ruleLayout, rulesOf, stepsOf, walkOf, event}
+use Rattle.events.specs.Events.{Rule, Step, ruleLayout, rulesOf, stepsOf, walkOf, event, walksOf}
 use Rattle.events.proofs.Fields.{left-rule, stepAt}
 use Rattle.expansion.specs.Expansion.{expandNode, expandWalk, expandFrom}
 use Rattle.expansion.specs.Building.{Known, Measured}
 use Rattle.expansion.specs.Filling.{toward, partOf, nodeIn, walkIn}
-use Rattle.expansion.specs.Table.{walksOf, capped, sizesOf, sizeAt}
+use Rattle.expansion.specs.Table.{capped, sizesOf, sizeAt}
 use Rattle.expansion.proofs.Nodes.{isForward, hasKeyOf}
 use Rattle.expansion.proofs.Parts.{walk-next, walk-done}
-use Rattle.expansion.proofs.Turn.{length-turn}
+use Rattle.events.proofs.Walks.{length-turn}
 
 -- a rule that a lookup from `ahead` on finds is one of the n
 pub found-below : (p : Rule → Bool) (n ahead k : ℕ) (l : List ℕ) → findFrom p ahead (drop ahead (rulesOf n l)) ≡ At k → k < n

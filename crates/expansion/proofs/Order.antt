@@ -11,11 +11,10 @@ use Rattle.kit.specs.Loops.{all, any, lines}
 use Rattle.kit.proofs.Bools.{and-true-l, and-true-r, and-both, or-neither, or-false-l, or-false-r, not-of}
 use Rattle.kit.proofs.Meaning.{all-append, any-append}
 use Rattle.handle.proofs.Handles.{id-flip}
-use Rattle.events.specs.Events.{Rule, Step, walkOf, keyed, turnSteps}
+use Rattle.events.specs.Events.{Rule, Step, walkOf, keyed, turnSteps, walksOf, rulesFrom}
 use Rattle.events.specs.WellFormed.{stepsLater, inOrderFrom}
 use Rattle.expansion.specs.Expansion.{expandNode, expandWalk, expandFrom}
 use Rattle.expansion.specs.Filling.{toward}
-use Rattle.expansion.specs.Table.{walksOf, rulesFrom}
 use Rattle.expansion.proofs.Nodes.{isForward, hasKeyOf, lines-same}
 use Rattle.expansion.proofs.Turn.{flipStep}
 

@@ -3,7 +3,6 @@ use Prim.Native.Nat.{ℕ, _+_, _-_, _*_, _≤_, _<_}
 use mathlib.Core.Path.{_≡_, sym, ap, ap₂, _∙_}
 use mathlib.Core.Bool.{Bool, true, false, cond}
 use mathlib.Core.List.{List, [], _∷_}
-use native.Mathlib.Nat.{add-zero}
 use native.Mathlib.Numerals.{add-one}
 use native.Mathlib.Omega.{arith}
 use lib.ListN.{length, drop, getD, length-drop, drop-of-length-le}
@@ -13,13 +12,11 @@ use Rattle.handle.specs.declared.Handle.{Handle}
 use Rattle.handle.specs.Handle.{flip}
 use Rattle.events.specs.declared.Used.{Used}
 use Rattle.events.specs.Events.{Step, step, stepTo, stepLayout, stepsOf, unpackStep}
-use Rattle.events.proofs.Fields.{stepAt, left-step}
+use Rattle.events.proofs.Fields.{stepAt, left-step, step-at}
 use Rattle.expansion.specs.Filling.{toward, partOf}
 use Rattle.expansion.proofs.Places.{numbers-same}
-use Rattle.expansion.proofs.Turn.{flipStep, length-turn, getD-turn}
-
-step-at : (l : List ℕ) (i : ℕ) → unpackStep (drop (2 * i) l) ≡ stepAt l i
-step-at l i = simp (getD-drop, add-zero)
+use Rattle.expansion.proofs.Turn.{flipStep, getD-turn}
+use Rattle.events.proofs.Walks.{length-turn}
 
 -- a step that lies where nothing was written
 pub step-same : (place : ℕ) (l m : List ℕ) (i : ℕ) → drop (2 * place) l ≡ drop (2 * place) m → place ≤ i → stepAt l i ≡ stepAt m i

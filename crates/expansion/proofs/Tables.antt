@@ -8,10 +8,10 @@ use borrow.Author.Tests.{le-leb}
 use lib.ListN.{length, drop, length-append}
 use Rattle.kit.specs.Loops.{all, sum}
 use Rattle.kit.proofs.Bools.{and-both}
-use Rattle.events.specs.Events.{Rule, Step, Rules, rule, Event, walkOf, appendAll, append}
+use Rattle.events.specs.Events.{Rule, Step, Rules, rule, Event, walkOf, appendAll, append, walksOf, rulesFrom}
 use Rattle.expansion.specs.Expansion.{expandWalk, expandFrom, expanded}
 use Rattle.expansion.specs.Filling.{lies}
-use Rattle.expansion.specs.Table.{walksOf, rulesFrom, rulesBy, sizesOf}
+use Rattle.expansion.specs.Table.{rulesBy, sizesOf}
 use Rattle.expansion.proofs.Walking.{lies-below}
 
 abbrev pub tableOf : List Event → Rules
@@ -31,10 +31,6 @@ appended t (e ∷ es) =
 
 pub table-is : (t : Rules) → expanded t ≡ tableOf (expandFrom (t .steps) (t .rules))
 table-is t = appended (joined [] []) (expandFrom (t .steps) (t .rules))
-
-pub length-rules : (first : ℕ) (es : List Event) → length (rulesFrom first es) ≡ length es
-length-rules first [] = refl
-length-rules first (e ∷ es) = ap suc (length-rules (first + length (e .walk)) es)
 
 pub length-events : (steps : List Step) (rs : List Rule) → length (expandFrom steps rs) ≡ length rs
 length-events steps [] = refl

@@ -12,15 +12,14 @@ use Rattle.kit.specs.Loops.{all, any, sum, lines}
 use Rattle.kit.proofs.Bools.{and-true-l, and-true-r, and-both}
 use Rattle.kit.proofs.Meaning.{all-append, sum-append}
 use Rattle.handle.specs.Handle.{idOf}
-use Rattle.events.specs.Events.{Rule, Step, Rules, rule, Event, event, walkOf, turnSteps}
+use Rattle.events.specs.Events.{Rule, Step, Rules, rule, Event, event, walkOf, walksOf, rulesFrom}
 use Rattle.events.specs.WellFormed.{stepsLater, inOrderFrom, inOrder}
 use Rattle.expansion.specs.Expansion.{expandNode, expandWalk, expandFrom, expanded}
 use Rattle.expansion.specs.Filling.{toward}
-use Rattle.expansion.specs.Table.{walksOf, rulesFrom}
 use Rattle.expansion.proofs.Nodes.{isForward, hasKeyOf}
 use Rattle.expansion.proofs.Order.{free, walk-free, memo-next, memo-own, memo-twice, memo}
 use Rattle.expansion.proofs.Tables.{tableOf, table-is}
-use Rattle.expansion.proofs.Turn.{flipStep}
+use Rattle.events.proofs.Walks.{sum-turn}
 
 -- keys and order
 abbrev pub keyOf : Rule → Rule
@@ -90,13 +89,9 @@ lengthOf ws = sum (λ (s : Step). s .len) ws
 abbrev pub sums : List Step → Rule → Bool
 sums steps r = eqb (lengthOf (walkOf steps r)) (r .len)
 
-length-turned : (ws : List Step) → lengthOf (turnSteps ws) ≡ lengthOf ws
-length-turned [] = refl
-length-turned (s ∷ ws) = omega (arith, sum-append (λ (x : Step). x .len) (turnSteps ws) (flipStep s ∷ []), length-turned ws)
-
 length-toward : (forward : Bool) (ws : List Step) → lengthOf (toward forward ws) ≡ lengthOf ws
 length-toward true ws = refl
-length-toward false ws = length-turned ws
+length-toward false ws = sum-turn ws
 
 length-lines : (f : Step → List Step) (ws : List Step) → ((s : Step) → lengthOf (f s) ≡ s .len) → lengthOf (lines f ws) ≡ lengthOf ws
 length-lines f [] h = refl

@@ -7,7 +7,7 @@ use native.Mathlib.Nat.{not-suc-le-zero}
 use native.Mathlib.Omega.{arith}
 use borrow.Author.Tests.{eq-eqb, ne-eqb}
 use lib.Dec.{eqb}
-use lib.ListN.{length, getD, length-append, List·getD-append}
+use lib.ListN.{length, getD, List·getD-append}
 use lib.Seq.{getD-at}
 use Rattle.kit.proofs.Bools.{tests}
 use Rattle.kit.proofs.Meaning.{lines-append}
@@ -16,6 +16,7 @@ use Rattle.handle.specs.Handle.{idOf, dirOf, flip}
 use Rattle.handle.proofs.Handles.{id-flip, dir-flip, flip-flip}
 use Rattle.events.specs.Events.{Rule, Step, stepTo, walkOf, keyed, turnSteps}
 use Rattle.expansion.specs.Expansion.{expandNode, expandWalk}
+use Rattle.events.proofs.Walks.{length-turn}
 
 abbrev pub flipStep : Step → Step
 flipStep s = stepTo (flip (s .node)) (s .len)
@@ -30,10 +31,6 @@ turn-append (s ∷ a) b = rw (turn-append a b) (append-assoc (turnSteps b) (turn
 pub turn-turn : (a : List Step) → turnSteps (turnSteps a) ≡ a
 turn-turn [] = refl
 turn-turn (s ∷ a) = turn-append (turnSteps a) (flipStep s ∷ []) ∙ ap₂ _∷_ (flip-step s) (turn-turn a)
-
-pub length-turn : (a : List Step) → length (turnSteps a) ≡ length a
-length-turn [] = refl
-length-turn (s ∷ a) = length-append (turnSteps a) (flipStep s ∷ []) ∙ omega (arith, length-turn a)
 
 -- the k-th of a turned walk is the k-th from the end, flipped
 pub getD-turn : (a : List Step) (k : ℕ) (d : Step) → k < length a → getD (turnSteps a) k d ≡ flipStep (getD a (length a - 1 - k) d)

@@ -6,10 +6,10 @@ use mathlib.Core.List.{List, _++_}
 use lib.ListN.{length, take, drop}
 use Rattle.kit.specs.Layout.{encode}
 use Rattle.events.specs.declared.Used.{Used}
-use Rattle.events.specs.Events.{Rules, ruleLayout, stepLayout, rulesOf, stepsOf, listOf}
+use Rattle.events.specs.Events.{Rules, ruleLayout, stepLayout, rulesOf, stepsOf, listOf, walksOf, rulesFrom}
 use Rattle.events.specs.WellFormed.{roomForRules, tableFormed, inOrder}
 use Rattle.expansion.specs.Expansion.{expandFrom}
-use Rattle.expansion.specs.Table.{walksOf, rulesFrom, capped, sizesOf, eventsIn}
+use Rattle.expansion.specs.Table.{capped, sizesOf, eventsIn}
 
 -- lens holds the lengths of the events from `ahead` on
 pub record Known (rules steps : List ℕ) (c : Used) (lens : List ℕ) (ahead : ℕ) : Type 0 where

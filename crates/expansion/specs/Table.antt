@@ -2,20 +2,11 @@
 use Prim.Native.Nat.{ℕ, _+_, min}
 use mathlib.Core.List.{List, [], _∷_, map}
 use lib.ListN.{length, getD}
-use Rattle.kit.specs.Loops.{lines}
 use Rattle.kit.specs.declared.Found.{Found}
 use Rattle.kit.specs.declared.Found.the-variants.{At, Nothing}
 use Rattle.events.specs.declared.Used.{Used}
-use Rattle.events.specs.Events.{Rule, Step, rule, rulesOf, stepsOf, Event}
+use Rattle.events.specs.Events.{Rule, rule, rulesOf, stepsOf, Event}
 use Rattle.expansion.specs.Expansion.{expandFrom}
-
-abbrev pub walksOf : List Event → List Step
-walksOf es = lines (λ e. e .walk) es
-
--- the events' rules, whose steps start at the step `first`
-abbrev pub rulesFrom : ℕ → List Event → List Rule
-rulesFrom first [] = []
-rulesFrom first (e ∷ es) = rule (e .id) (e .len) first (length (e .walk)) ∷ rulesFrom (first + length (e .walk)) es
 
 -- the same rules from the keys of a list and the lengths of the walks
 abbrev pub rulesBy : ℕ → List Rule → List ℕ → List Rule

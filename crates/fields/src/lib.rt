@@ -11,7 +11,6 @@ ghost use Prim.Native.Nat.{_+_, _<_};
 ghost use lib.Dec.{eqb, ltb};
 ghost use lib.ListN.{length, getD};
 ghost use Rattle.kit.specs.Loops.{any};
-ghost use Rattle.letters.specs.Sequences.{allLetters};
 ghost use Rattle.handle.specs.Handle.{pack};
 ghost use Rattle.text.specs.Pieces.{fieldsOf, field};
 ghost use Rattle.text.specs.Names.{nameId};
@@ -53,26 +52,13 @@ fn sign_number(f: &[u8]) -> u64
     0
 }
 
-fn all_letters(f: &[u8]) -> bool
-    ensures { λ r. ⌜ r ≡ allLetters (now (f .entry)) ⌝ }
-{
-    let mut i: usize = 0;
-    while i < f.len() {
-        if !letters::is_letter(f[i]) {
-            return false;
-        }
-        i += 1;
-    }
-    true
-}
-
 fn letters_number(f: &[u8]) -> u64
     ensures { λ r. ⌜ r ≡ lettersNumber (now (f .entry)) ⌝ }
 {
     if f.len() == 0 {
         return 1;
     }
-    if !all_letters(f) {
+    if !letters::all_letters(f) {
         return 3;
     }
     0

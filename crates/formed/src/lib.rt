@@ -7,26 +7,10 @@ ghost use Prim.Native.Nat.{_+_, _*_, _≤_};
 ghost use mathlib.Core.Path.{_≡_};
 ghost use lib.ListN.{length, take, drop};
 ghost use Rattle.kit.specs.Loops.{all, any};
-ghost use Rattle.letters.specs.Sequences.{allLetters};
 ghost use Rattle.handle.specs.Edge.{edge, sameEnds};
-ghost use Rattle.store.specs.Graph.{node, link, ends, nodesOf, linksOf, graphOf};
+ghost use Rattle.store.specs.Graph.{node, link, ends, nodesOf, linksOf};
 ghost use Rattle.store.specs.Views.{unmarkedNode};
 ghost use Rattle.formed.specs.WellFormed.{roomFor, goodNode, goodLink, linksOnce, idsOnce, unmarkedLink, wellFormed, oldFormed, graphNumber};
-
-// Whether `len` bytes from `start` on are letters.
-fn all_letters(text: &[u8], start: usize, len: usize) -> bool
-    requires { ⌜ start + len ≤ length (now text) ⌝ }
-    ensures { λ r. ⌜ r ≡ allLetters (take len (drop start (now (text .entry)))) ⌝ }
-{
-    let mut i: usize = 0;
-    while i < len {
-        if !letters::is_letter(text[start + i]) {
-            return false;
-        }
-        i += 1;
-    }
-    true
-}
 
 // The tests are in an order in which none can overflow.
 fn good_node(text: &[u8], id: u64, start: u64, len: u64, mark: u64) -> bool
@@ -50,7 +34,8 @@ fn good_node(text: &[u8], id: u64, start: u64, len: u64, mark: u64) -> bool
     if text.len() as u64 - len < start {
         return false;
     }
-    all_letters(text, start as usize, len as usize)
+    let first = start as usize;
+    letters::all_letters(&text[first..first + len as usize])
 }
 
 fn good_nodes(nodes: &[u64], count: usize, text: &[u8]) -> bool

@@ -1,8 +1,8 @@
 // Files by name. What goes to a file stands beside it under NAME.part until all of it is there.
 use cases::input::same_word;
+use kit::put_bytes;
 use libc::STDIN_FILENO;
 use request::ask::is_standard;
-use writing::put::put_bytes;
 ghost use Prim.Native.Nat.{_≤_};
 ghost use Rattle.io.specs.Counts.{Counts};
 

@@ -1,21 +1,13 @@
 -- Lists: the first that passes, those that are kept, and lines that are the same one by one.
-use mathlib.Core.Path.{_≡_, refl, sym, ap₂}
-use mathlib.Core.Bool.{Bool, true, false, cond, _||_}
+use mathlib.Core.Path.{_≡_, refl, ap₂}
+use mathlib.Core.Bool.{Bool, true, false, cond}
 use mathlib.Core.List.{List, [], _∷_, _++_, List·Memᴰ, List·Memᴰ·head, List·Memᴰ·tail}
-use Rattle.kit.specs.Loops.{firstOr, all, any, distinct, keep, lines}
-use Rattle.kit.proofs.Bools.{never, and-true-l, and-true-r, and-both, or-false-l, or-false-r, not-of}
+use Rattle.kit.specs.Loops.{all, any, distinct, keep, lines}
+use Rattle.kit.proofs.Bools.{and-true-l, and-true-r, and-both, or-false-l, or-false-r, not-of}
 use Rattle.kit.proofs.Meaning.{none-mem, none-of, distinct-first, distinct-rest}
 use Rattle.kit.proofs.Members.{of-keep}
 
 module _ {A : Type 0} (p : A → Bool) where
-  pub first-some : (d : A) (xs : List A) → any p xs ≡ true → List·Memᴰ (firstOr d p xs) xs × (p (firstOr d p xs) ≡ true)
-  first-some d [] t = never (sym t)
-  first-some d (x ∷ xs) t = by (p x) refl t (first-some d xs)
-    where
-      by : (b : Bool) → p x ≡ b → (b || any p xs) ≡ true → (any p xs ≡ true → List·Memᴰ (firstOr d p xs) xs × (p (firstOr d p xs) ≡ true)) → List·Memᴰ (cond b x (firstOr d p xs)) (x ∷ xs) × (p (cond b x (firstOr d p xs)) ≡ true)
-      by true e q go = (List·Memᴰ·head refl, e)
-      by false e q go = (List·Memᴰ·tail (go q .0), go q .1)
-
   pub keep-all : (xs : List A) → all p xs ≡ true → keep p xs ≡ xs
   keep-all [] t = refl
   keep-all (x ∷ xs) t = rw (and-true-l (p x) (all p xs) t, keep-all xs (and-true-r (p x) (all p xs) t))

@@ -10,7 +10,7 @@ use lib.ListN.{length, drop, length-drop}
 use lib.Seq.{length-take-le}
 use Rattle.kit.specs.Loops.{keep}
 use Rattle.kit.proofs.Bools.{and-true-l, and-true-r}
-use Rattle.kit.proofs.Meaning.{all-mem, any-mem, any-some}
+use Rattle.kit.proofs.Meaning.{all-mem, any-mem, any-some, first-some}
 use Rattle.kit.proofs.Members.{in-keep, of-keep}
 use Rattle.letters.specs.Sequences.{allLetters}
 use Rattle.letters.proofs.Sequences.{length-oriented, oriented-letters}
@@ -25,7 +25,7 @@ use Rattle.formed.proofs.Says.{GoodNode, node-says, link-says, graph-says}
 use Rattle.sides.proofs.Rising.{Sorted, rising-sorted, of-rising, in-rising}
 use Rattle.writing.specs.GraphText.{liveSegments, liveLinks}
 use Rattle.store.proofs.Order.{Written, of-order, order-written}
-use Rattle.gfa.proofs.WriteLists.{first-some, distinct-keep}
+use Rattle.gfa.proofs.WriteLists.{distinct-keep}
 
 abbrev forward : Node → Handle
 forward r = pack (r .id) 0

@@ -11,7 +11,7 @@ use Rattle.kit.specs.Decimal.{decimal}
 use Rattle.kit.specs.Loops.{all, keep, lines}
 use Rattle.kit.proofs.Bools.{and-both}
 use Rattle.kit.proofs.Decimal.{decimal-inj}
-use Rattle.kit.proofs.Meaning.{any-mem, all-of, all-map}
+use Rattle.kit.proofs.Meaning.{any-mem, all-of, all-map, first-some}
 use Rattle.letters.specs.Sequences.{oriented}
 use Rattle.handle.specs.declared.Handle.{Handle}
 use Rattle.handle.specs.Handle.{idOf, dirOf, pack}
@@ -27,7 +27,7 @@ use Rattle.store.proofs.Order.{Written, Leads, written-nil, written-cons}
 use Rattle.text.specs.Bytes.{bytes}
 use Rattle.gfa.specs.Said.{Segment}
 use Rattle.gfa.specs.Holds.{segmentIn, segmentOf, LivePart}
-use Rattle.gfa.proofs.WriteLists.{first-some, keep-all, lines-same}
+use Rattle.gfa.proofs.WriteLists.{keep-all, lines-same}
 use Rattle.gfa.proofs.WriteLive.{segmented, segments-rise, joined, links-rise}
 
 -- nodes one after another, each with its letters behind those before it

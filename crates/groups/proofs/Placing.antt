@@ -6,19 +6,13 @@ use mathlib.Core.List.{List, [], _∷_, reverse, reverse-cons, map-append}
 use native.Mathlib.Omega.{arith}
 use lib.Dec.{eqb}
 use lib.ListN.{length, set, length-append, length-reverse, length-map}
-use lib.Seq.{sets, set-comm}
+use lib.Seq.{sets}
 use Rattle.kit.specs.Loops.{keep}
 use Rattle.kit.proofs.Bools.{tests}
-use Rattle.kit.proofs.Writes.{sets-append, sets-last}
+use Rattle.kit.proofs.Writes.{sets-append, sets-last, set-past}
 use Rattle.handle.specs.declared.Handle.{Handle}
 use Rattle.handle.specs.Handle.{dirOf}
 use Rattle.groups.specs.Groups.{isReverse, arranged, numbers}
-
--- a store past a run of stores
-sets-past : (l : List ℕ) (i : ℕ) (vs : List ℕ) (j d : ℕ) → i + length vs ≤ j → sets (set l j d) i vs ≡ set (sets l i vs) j d
-sets-past l i [] j d h = refl
-sets-past l i (x ∷ vs) j d h =
-    ap (λ (k : List ℕ). sets k (suc i) vs) (set-comm l j i d x (omega arith)) ∙ sets-past (set l i x) (suc i) vs j d (omega arith)
 
 abbrev pub forward : Handle → Bool
 forward h = not (isReverse h)
@@ -104,7 +98,7 @@ module _ (l : List ℕ) (base low high : ℕ) (w : Handle) (rest : List Handle) 
         between = omega arith;
         inside = omega arith;
         todo = ap (λ (y : ℕ). sets (sets (set l high (w .packed)) base down) y up) k
-            ∙ ap (λ (x : List ℕ). sets x (suc high) up) (sets-past l base down high (w .packed) (omega (arith, length-down (downs rest))));
+            ∙ ap (λ (x : List ℕ). sets x (suc high) up) (set-past l base down high (w .packed) (omega (arith, length-down (downs rest))));
       }
 
   pub placed-one : low ≡ base + length (downs (w ∷ rest)) → Placed l base low high w rest (isReverse w) (dirOf w)

@@ -101,7 +101,7 @@ written-same e f t =
     (λ p. sym (written-turned e) ∙ ap written (same-ends (turned e) f p))
     (or-cases (sameEnds e f) (sameEnds (turned e) f) t)
 
-link-of : (e f : Edge) → (e ≡ f) ⊎ (turned e ≡ f) → sameLink e f ≡ true
+pub link-of : (e f : Edge) → (e ≡ f) ⊎ (turned e ≡ f) → sameLink e f ≡ true
 link-of e f =
     ⊎-elim
     (λ p. or-left (sameEnds e f) _ (subst (λ (x : Edge). sameEnds e x ≡ true) p (ends-refl e)))

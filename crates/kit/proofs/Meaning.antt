@@ -37,6 +37,14 @@ module _ {A : Type 0} (p : A → Bool) where
   all-of [] h = refl
   all-of (a ∷ rs) h = and-both (p a) (all p rs) (h a (List·Memᴰ·head refl)) (all-of rs (λ b m. h b (List·Memᴰ·tail m)))
 
+  pub not-all : (rs : List A) → all p rs ≡ false → (a : A) × List·Memᴰ a rs × (p a ≡ false)
+  not-all [] f = never f
+  not-all (a ∷ rs) f = by (p a) refl f (not-all rs)
+    where
+      by : (b : Bool) → p a ≡ b → (b && all p rs) ≡ false → (all p rs ≡ false → (x : A) × List·Memᴰ x rs × (p x ≡ false)) → (x : A) × List·Memᴰ x (a ∷ rs) × (p x ≡ false)
+      by true e q go = let r = go q in (r .0, List·Memᴰ·tail (r .1), r .2)
+      by false e q go = (a, List·Memᴰ·head refl, e)
+
   -- some element passes, or none does
   pub any-mem : {a : A} {rs : List A} → List·Memᴰ a rs → p a ≡ true → any p rs ≡ true
   any-mem (List·Memᴰ·head {x} {xs} e) t = or-left (p x) (any p xs) (ap p (sym e) ∙ t)
@@ -93,6 +101,15 @@ module _ {A : Type 0} (p : A → Bool) where
       by : (b : Bool) → cond b (At i) (findFrom p (i + 1) rs) ≡ Nothing → (findFrom p (i + 1) rs ≡ Nothing → firstOr d p rs ≡ d) → cond b a (firstOr d p rs) ≡ d
       by true r go = let z : _≡_ {A = ℕ} 0 1 = cc in absurd (omega arith)
       by false r go = go r
+
+  -- and stands in the list where some passes
+  pub first-some : (d : A) (rs : List A) → any p rs ≡ true → List·Memᴰ (firstOr d p rs) rs × (p (firstOr d p rs) ≡ true)
+  first-some d [] t = never (sym t)
+  first-some d (a ∷ rs) t = by (p a) refl t (first-some d rs)
+    where
+      by : (b : Bool) → p a ≡ b → (b || any p rs) ≡ true → (any p rs ≡ true → List·Memᴰ (firstOr d p rs) rs × (p (firstOr d p rs) ≡ true)) → List·Memᴰ (cond b a (firstOr d p rs)) (a ∷ rs) × (p (cond b a (firstOr d p rs)) ≡ true)
+      by true e q go = (List·Memᴰ·head refl, e)
+      by false e q go = (List·Memᴰ·tail (go q .0), go q .1)
 
   -- of two lists in a row
   pub all-append : (rs ts : List A) → all p (rs ++ ts) ≡ (all p rs && all p ts)

@@ -1,5 +1,5 @@
 // Records in flat slices of numbers, the plain loops over them, text being written and decimal numbers:
-// the shared definitions (specs/) and laws (proofs/), what a lookup answers, and the writer of a number.
+// the shared definitions (specs/) and laws (proofs/), what a lookup answers, and the writers of a number and of bytes.
 ghost use mathlib.Core.Path.{_≡_};
 ghost use Prim.Native.Nat.{_+_, _≤_};
 ghost use lib.ListN.{length};
@@ -39,4 +39,17 @@ pub fn put_decimal(out: &mut [u8], at: usize, n: u64) -> usize
     }
     out[k] = 48 + (x % 10) as u8;
     at + w
+}
+
+// Writes bytes from `at` on; the place after them.
+pub fn put_bytes(out: &mut [u8], at: usize, bytes: &[u8]) -> usize
+    requires { ⌜ at + length (now bytes) ≤ length (now out) ⌝ }
+    ensures { λ r. ⌜ Put (now (out .entry)) at (now (bytes .entry)) (now (out .exit)) r ⌝ }
+{
+    let mut i: usize = 0;
+    while i < bytes.len() {
+        out[at + i] = bytes[i];
+        i += 1;
+    }
+    at + bytes.len()
 }

@@ -1,6 +1,7 @@
 // Letters, as 01 "Nodes, letters, links" has them: complements by a table, upper case, and the tests.
 ghost use mathlib.Core.Path.{_≡_};
 ghost use Rattle.letters.specs.Letters.{complementOf, isLetter, upperOf, sameLetter, isBase};
+ghost use Rattle.letters.specs.Sequences.{allLetters};
 
 // Each byte's complement, 0 where it is no letter; 16 places to a line.
 const COMPLEMENT: [u8; 256] = *b"\
@@ -50,4 +51,17 @@ pub fn is_base(b: u8) -> bool
     ensures { λ r. ⌜ r ≡ isBase b ⌝ }
 {
     is_letter(b) && upper(b) != b'N'
+}
+
+pub fn all_letters(s: &[u8]) -> bool
+    ensures { λ r. ⌜ r ≡ allLetters (now (s .entry)) ⌝ }
+{
+    let mut i: usize = 0;
+    while i < s.len() {
+        if !is_letter(s[i]) {
+            return false;
+        }
+        i += 1;
+    }
+    true
 }

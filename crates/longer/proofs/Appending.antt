@@ -1,22 +1,15 @@
 -- An event list with events appended: its rules, its steps and how many there are.
-use Prim.Native.Nat.{ℕ, _+_}
+use Prim.Native.Nat.{_+_}
 use mathlib.Core.Path.{_≡_, refl, ap, _∙_}
 use mathlib.Core.List.{List, [], _∷_, _++_, append-assoc, append-nil}
 use native.Mathlib.Omega.{arith}
 use lib.ListN.{length, length-append}
-use Rattle.kit.specs.Loops.{sum, lines}
-use Rattle.events.specs.Events.{Rule, Step, Rules, rule, Event, append, appendAll}
+use Rattle.kit.specs.Loops.{sum}
+use Rattle.events.specs.Events.{Rule, Step, Rules, rule, Event, append, appendAll, walksOf, rulesFrom}
+use Rattle.events.proofs.Walks.{length-rules}
 
 abbrev pub table : List Rule → List Step → Rules
 table rules steps = record { rules = rules; steps = steps }
-
--- the rules of events whose steps stand from `first` on, and those steps
-abbrev pub rulesFrom : ℕ → List Event → List Rule
-rulesFrom first [] = []
-rulesFrom first (e ∷ es) = rule (e .id) (e .len) first (length (e .walk)) ∷ rulesFrom (first + length (e .walk)) es
-
-abbrev pub walksOf : List Event → List Step
-walksOf es = lines (λ e. e .walk) es
 
 pub append-all : (t : Rules) (es : List Event) → appendAll t es ≡ table (t .rules ++ rulesFrom (length (t .steps)) es) (t .steps ++ walksOf es)
 append-all t [] = rw (append-nil (t .rules), append-nil (t .steps))
@@ -31,10 +24,6 @@ module _ (t : Rules) (es : List Event) where
   pub steps-longer : appendAll t es .steps ≡ t .steps ++ walksOf es
   steps-longer = ap (λ (u : Rules). u .steps) (append-all t es)
 
-pub length-rules-from : (first : ℕ) (es : List Event) → length (rulesFrom first es) ≡ length es
-length-rules-from first [] = refl
-length-rules-from first (e ∷ es) = omega (arith, length-rules-from (first + length (e .walk)) es)
-
 pub length-walks : (es : List Event) → length (walksOf es) ≡ sum (λ e. length (e .walk)) es
 length-walks [] = refl
 length-walks (e ∷ es) = omega (arith, length-append (e .walk) (walksOf es), length-walks es)
@@ -42,7 +31,7 @@ length-walks (e ∷ es) = omega (arith, length-append (e .walk) (walksOf es), le
 module _ (t : Rules) (es : List Event) where
   pub rule-count : length (appendAll t es .rules) ≡ length (t .rules) + length es
   rule-count =
-      omega (arith, ap length (rules-longer t es), length-append (t .rules) (rulesFrom (length (t .steps)) es), length-rules-from (length (t .steps)) es)
+      omega (arith, ap length (rules-longer t es), length-append (t .rules) (rulesFrom (length (t .steps)) es), length-rules (length (t .steps)) es)
 
   pub step-count : length (appendAll t es .steps) ≡ length (t .steps) + sum (λ e. length (e .walk)) es
   step-count = omega (arith, ap length (steps-longer t es), length-append (t .steps) (walksOf es), length-walks es)

@@ -5,10 +5,10 @@ use mathlib.Core.Bool.{Bool, true, false, cond, _&&_, and-true, and-comm}
 use mathlib.Core.List.{List, [], _∷_}
 use native.Mathlib.Omega.{arith}
 use lib.Dec.{ltb}
-use lib.ListN.{length, length-append}
+use lib.ListN.{length}
 use Rattle.kit.specs.Loops.{all, sum}
 use Rattle.kit.proofs.Bools.{tests}
-use Rattle.kit.proofs.Meaning.{all-append, sum-append}
+use Rattle.kit.proofs.Meaning.{all-append}
 use Rattle.handle.specs.declared.Handle.{Handle}
 use Rattle.handle.specs.Handle.{idOf, flip}
 use Rattle.handle.proofs.Handles.{id-flip}
@@ -16,16 +16,9 @@ use Rattle.events.specs.Events.{Step, stepTo, turnSteps}
 use Rattle.merging.specs.Merging.{isForward}
 use Rattle.merging.specs.Plan.{suffixBy}
 use Rattle.longer.specs.Longer.{walkOne, eventOne, facing}
+use Rattle.events.proofs.Walks.{length-turn, sum-turn}
 
--- reversed and flipped: as many steps, with the same ids and lengths
-pub length-turned : (ss : List Step) → length (turnSteps ss) ≡ length ss
-length-turned [] = refl
-length-turned (s ∷ ss) = omega (arith, length-append (turnSteps ss) (stepTo (flip (s .node)) (s .len) ∷ []), length-turned ss)
-
-pub sum-turned : (ss : List Step) → sum (λ s. s .len) (turnSteps ss) ≡ sum (λ s. s .len) ss
-sum-turned [] = refl
-sum-turned (s ∷ ss) = omega (arith, sum-append (λ (r : Step). r .len) (turnSteps ss) (stepTo (flip (s .node)) (s .len) ∷ []), sum-turned ss)
-
+-- reversed and flipped, a walk has the same ids and lengths
 pub all-turned : (q : ℕ → ℕ → Bool) (ss : List Step) → all (λ s. q (idOf (s .node)) (s .len)) (turnSteps ss) ≡ all (λ s. q (idOf (s .node)) (s .len)) ss
 all-turned q [] = refl
 all-turned q (s ∷ ss) =
@@ -42,7 +35,7 @@ either f false w e = e
 
 module _ (p len : ℕ) (x : Handle) (fresh : ℕ) (m : Handle) where
   pub walk-length : length (eventOne p len x fresh m .walk) ≡ 1 + cond (ltb p len) 1 0
-  walk-length = either length (isForward m) (walkOne p len x fresh m) (length-turned (walkOne p len x fresh m)) ∙ by (ltb p len)
+  walk-length = either length (isForward m) (walkOne p len x fresh m) (length-turn (walkOne p len x fresh m)) ∙ by (ltb p len)
     where
       by : (b : Bool) → length (cond b (stepTo x p ∷ stepTo (suffixBy fresh m) (len - p) ∷ []) (stepTo x p ∷ [])) ≡ 1 + cond b 1 0
       by true = refl
@@ -50,7 +43,7 @@ module _ (p len : ℕ) (x : Handle) (fresh : ℕ) (m : Handle) where
 
   -- each event's lengths add up to its key's
   pub walk-sum : p ≤ len → sum (λ s. s .len) (eventOne p len x fresh m .walk) ≡ len
-  walk-sum h = either (sum (λ (s : Step). s .len)) (isForward m) (walkOne p len x fresh m) (sum-turned (walkOne p len x fresh m)) ∙ by (ltb p len) refl
+  walk-sum h = either (sum (λ (s : Step). s .len)) (isForward m) (walkOne p len x fresh m) (sum-turn (walkOne p len x fresh m)) ∙ by (ltb p len) refl
     where
       by : (b : Bool) → ltb p len ≡ b → sum (λ s. s .len) (cond b (stepTo x p ∷ stepTo (suffixBy fresh m) (len - p) ∷ []) (stepTo x p ∷ [])) ≡ len
       by true e = omega (arith, tests)

@@ -24,8 +24,8 @@ use Rattle.split.proofs.Theorems.{Splits, good-split, once-after, letters-kept,
 use Rattle.merging.specs.Merging.{isLong, isForward, alone, prefixOf, suffixOf}
 use Rattle.merging.specs.Plan.{dim}
 use Rattle.merged.proofs.Dim.{dims-split}
-use Rattle.merged.proofs.Formed.{live-stored}
 use Rattle.merged.proofs.Parts.{Holds, read-length, front-part, back-part, linked-stored, unmoved}
+use Rattle.store.proofs.Lookups.{live-stored}
 
 -- what is taken for granted of a member, in the graph before its turn
 pub record Member (p : ℕ) (g : Graph) (m : Handle) : Type 0 where

@@ -8,7 +8,7 @@ use borrow.Author.Tests.{eqb-true}
 use lib.Dec.{eqb}
 use Rattle.kit.specs.Loops.{all}
 use Rattle.kit.proofs.Bools.{never, and-both, and-true-l, and-true-r, not-true-false, or-false-l, or-false-r}
-use Rattle.kit.proofs.Meaning.{all-append, all-map, all-mem, all-of, any-mem, any-some, distinct-first, distinct-rest}
+use Rattle.kit.proofs.Meaning.{all-append, all-map, all-mem, all-of, any-mem, distinct-first, distinct-rest}
 use Rattle.kit.proofs.Lists.{distinct-snoc, distinct-map}
 use Rattle.handle.specs.declared.Handle.{Handle}
 use Rattle.handle.specs.declared.Edge.{Edge}
@@ -16,18 +16,13 @@ use Rattle.handle.specs.Handle.{idOf}
 use Rattle.handle.specs.Edge.{edge, written, sameEnds}
 use Rattle.handle.proofs.Edges.{same-ends, same-written, written-written}
 use Rattle.store.specs.Graph.{Node, Link, Graph, node, link, ends}
-use Rattle.store.specs.Views.{named, stored, nodeNamed, unmarkedNode, liveHere, liveNode, largest, liveLen, liveLetters, joins, linked}
+use Rattle.store.specs.Views.{named, stored, nodeNamed, unmarkedNode, liveNode, largest, liveLen, liveLetters, joins, linked}
 use Rattle.formed.specs.WellFormed.{goodNode, goodLink, goodGraph, idsOnce, linksOnce}
 use Rattle.formed.proofs.Says.{node-says, says-node, says-link, graph-says, says-graph}
 use Rattle.split.proofs.Ends.{both-written}
 use Rattle.merging.specs.Merging.{addLink, addLinks, joined, markNode, marked}
 use Rattle.merged.proofs.NodesAlone.{mark-id, stored-marked}
-
--- a live node is stored
-pub live-stored : (j : ℕ) (rs : List Node) → liveNode j rs ≡ true → stored j rs ≡ true
-live-stored j rs t =
-    let a = any-some (liveHere j) rs t in
-    any-mem (named j) (a .1) (and-true-l (named j (a .0)) (unmarkedNode (a .0)) (a .2))
+use Rattle.store.proofs.Lookups.{live-stored}
 
 -- one that is stored already is not made again
 add-once : (e : Edge) (links : List Link) → linksOnce links ≡ true → linksOnce (addLink e links) ≡ true

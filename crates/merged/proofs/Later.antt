@@ -20,9 +20,10 @@ use Rattle.merging.specs.Merging.{isLong, alone, prefixOf, suffixOf, addLinks, 
 use Rattle.merging.specs.Plan.{dim, bury, aloneLinks, passedBy, laterLinks}
 use Rattle.merged.proofs.NodesAlone.{stored-marked}
 use Rattle.merged.proofs.Dim.{live-beside, dims-bury, adds-dim, rights-are}
-use Rattle.merged.proofs.Formed.{live-stored, joined-good, marked-good, marked-once, marked-largest, marked-beside, marked-letters}
+use Rattle.merged.proofs.Formed.{joined-good, marked-good, marked-once, marked-largest, marked-beside, marked-letters}
 use Rattle.merged.proofs.Parts.{still-holds, add-linked, adds-keep}
 use Rattle.merged.proofs.Alone.{Member, Turn, Alone, stands}
+use Rattle.store.proofs.Lookups.{live-stored}
 
 module _ (p : ℕ) (x : Handle) (g : Graph) (m : Handle) (a : Member p g m) (alive : liveNode (idOf x) (g .nodes) ≡ true) where
   abbrev h : Graph

@@ -23,9 +23,9 @@ use Rattle.split.specs.Split.{freshId}
 use Rattle.merging.specs.Merging.{isLong, suffixOf}
 use Rattle.merging.specs.Plan.{suffixBy}
 use Rattle.merged.proofs.NodesAlone.{sameId, other-id, count-same}
-use Rattle.merged.proofs.Formed.{live-stored}
 use Rattle.merged.proofs.Parts.{Holds, still-holds}
 use Rattle.merged.proofs.Alone.{Member, Rest, Turn}
+use Rattle.store.proofs.Lookups.{live-stored}
 
 -- the store is well formed; the members are live nodes, none twice, of p letters or more; their fresh ids are in range
 pub record Collapses (p : ℕ) (g : Graph) (ms : List Handle) : Type 0 where

@@ -20,12 +20,12 @@ use Rattle.split.specs.Split.{freshId, splitLinks}
 use Rattle.merging.specs.Merging.{isLong, isForward, alone, prefixOf, suffixOf, addLinks, readAs, later, laterAll, sharedNode, collapsed}
 use Rattle.merging.specs.Plan.{dim, bury, rightIn, longBy, freshAfter, suffixBy, laterLinks, laterLinksAll, planned, remark, mergedNodes}
 use Rattle.merged.proofs.NodesAlone.{other-id, nodes-count}
-use Rattle.merged.proofs.Formed.{live-stored}
 use Rattle.merged.proofs.Kept.{marks-kept, none-marked, remarks}
 use Rattle.merged.proofs.Parts.{unmarked-live}
 use Rattle.merged.proofs.Alone.{First, Turn, Alone, stands}
 use Rattle.merged.proofs.Later.{later-drawn, later-turn, later-linked, later-falls}
 use Rattle.merged.proofs.Members.{Collapses, Off, member, member-stored, same-long, next, suffixAt, After, after-none, Leads, after-holds, after-one, leads-one}
+use Rattle.store.proofs.Lookups.{live-stored}
 
 -- the plan looks at the nodes only to tell which members are long
 module _ (p : ℕ) (nodes nodes′ : List Node) (x : Handle) where

@@ -70,7 +70,7 @@ remark-append [] (r ∷ rs) ts e = absurd (omega arith)
 remark-append (o ∷ os) [] ts e = absurd (omega arith)
 remark-append (o ∷ os) (r ∷ rs) ts e = ap (λ (xs : List Link). link (ends r) (o .mark) ∷ xs) (remark-append os rs ts (omega arith))
 
-remark-length : (os rs : List Link) → length (remark os rs) ≡ length rs
+pub remark-length : (os rs : List Link) → length (remark os rs) ≡ length rs
 remark-length os [] = refl
 remark-length [] (r ∷ rs) = ap suc (remark-length [] rs)
 remark-length (o ∷ os) (r ∷ rs) = ap suc (remark-length os rs)

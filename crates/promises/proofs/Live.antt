@@ -12,23 +12,19 @@ use Rattle.handle.specs.Handle.{idOf, flip}
 use Rattle.handle.specs.declared.Edge.{Edge}
 use Rattle.handle.specs.Edge.{edge}
 use Rattle.handle.proofs.Handles.{id-flip, flip-flip}
-use Rattle.store.specs.Graph.{Node, Graph}
-use Rattle.store.specs.Views.{named, unmarkedNode, stored, liveHere, liveNode, joins, linked, liveLink, joinsLive, liveLinked}
+use Rattle.store.specs.Graph.{Graph}
+use Rattle.store.specs.Views.{stored, liveNode, joins, linked, liveLink, joinsLive, liveLinked}
 use Rattle.sides.proofs.Sides.{linked-turned}
 use Rattle.spelling.specs.Spelling.{turnWalk, gapAfter}
 use Rattle.spelling.proofs.Walks.{turn-turn}
 use Rattle.keeping.specs.Kept.{lastOf, firstOf}
 use Rattle.promises.specs.Walks.{Walk, liveWalk}
+use Rattle.store.proofs.Lookups.{live-stored}
 
 last-snoc : (a : List Handle) (x : Handle) → lastOf (a ++ (x ∷ [])) ≡ x
 last-snoc [] x = refl
 last-snoc (h ∷ []) x = refl
 last-snoc (h ∷ k ∷ a) x = last-snoc (k ∷ a) x
-
-pub live-stored : (id : ℕ) (rs : List Node) → liveNode id rs ≡ true → stored id rs ≡ true
-live-stored id rs t =
-    let r = any-some (liveHere id) rs t in
-    any-mem (named id) (r .1) (and-true-l (named id (r .0)) (unmarkedNode (r .0)) (r .2))
 
 module _ (g : Graph) where
   -- a walk of two steps and more, taken apart and put together

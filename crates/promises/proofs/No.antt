@@ -12,7 +12,7 @@ use lib.Dec.{eqb}
 use lib.ListN.{length, take, drop, length-append}
 use Rattle.kit.specs.Loops.{all, sum}
 use Rattle.kit.proofs.Bools.{never, and-true-l, and-true-r, and-both, or-left, eqb-sym}
-use Rattle.kit.proofs.Meaning.{all-mem, any-mem, any-some, none-mem, distinct-first, distinct-rest}
+use Rattle.kit.proofs.Meaning.{all-mem, any-mem, any-some, none-mem, distinct-first, distinct-rest, not-all}
 use Rattle.letters.specs.Sequences.{sameSpelling}
 use Rattle.letters.proofs.Sequences.{same-length}
 use Rattle.handle.specs.declared.Handle.{Handle}
@@ -33,20 +33,12 @@ use Rattle.keeping.specs.Kept.{lastOf, firstOf}
 use Rattle.verdict.specs.Conditions.{conditionsFault}
 use Rattle.promises.specs.Conditions.{stepAt, StepHolds, RuleHolds, NodeHolds, Conditions}
 use Rattle.promises.specs.Walks.{Walk, liveWalk, rewritesRightly, Formed, TrueTo, Wrong}
-use Rattle.promises.proofs.Live.{live-stored, live-says, live-mem, join-live}
+use Rattle.promises.proofs.Live.{live-says, live-mem, join-live}
 use Rattle.promises.proofs.Reading.{spell-length}
 use Rattle.promises.proofs.Rewrites.{Imaged, forward-image, images}
 use Rattle.promises.proofs.Walked.{later}
 use Rattle.promises.proofs.Yes.{yes-is-conditions}
-
--- where not all pass, one fails
-some-fails : {A : Type 0} (p : A → Bool) (rs : List A) → all p rs ≡ false → (a : A) × List·Memᴰ a rs × (p a ≡ false)
-some-fails p [] t = never t
-some-fails {A} p (a ∷ rs) t = by (p a) refl t (some-fails p rs)
-  where
-    by : (b : Bool) → p a ≡ b → (b && all p rs) ≡ false → (all p rs ≡ false → (x : A) × List·Memᴰ x rs × (p x ≡ false)) → (x : A) × List·Memᴰ x (a ∷ rs) × (p x ≡ false)
-    by true e q go = let r = go q in (r .0, List·Memᴰ·tail (r .1), r .2)
-    by false e q go = (a, List·Memᴰ·head refl, e)
+use Rattle.store.proofs.Lookups.{live-stored}
 
 -- where no key is given twice, a rule is the one under its key
 rule-only : {r : Rule} (rs : List Rule) → keysOnce rs ≡ true → List·Memᴰ r rs → ruleUnder (r .id) (r .len) rs ≡ r
@@ -213,6 +205,6 @@ no-is-wrong old new t formed true-to fault = by (all (rewritesRightly old new t)
     by : (b : Bool) → all (rewritesRightly old new t) (tried old) ≡ b → Wrong old new t
     by true e = absurd (fault (yes-is-conditions old new t [] .1 (conditions old new t formed true-to e)))
     by false e =
-        let r = some-fails (rewritesRightly old new t) (tried old) e in
+        let r = not-all (rewritesRightly old new t) (tried old) e in
         let s = tried-short old (formed .old-good) (r .0) (r .1) in
         record { walk = r .0; short = s .short; is-walk = s .is-walk; wrongly = r .2 }

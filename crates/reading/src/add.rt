@@ -9,7 +9,6 @@ ghost use mathlib.Core.Path.{_≡_};
 ghost use mathlib.Core.Bool.{false};
 ghost use mathlib.Core.List.{List, []};
 ghost use lib.ListN.{length};
-ghost use Rattle.kit.specs.Put.{Put};
 ghost use Rattle.handle.specs.Edge.{edge};
 ghost use Rattle.store.specs.Graph.{nodesOf, linksOf};
 ghost use Rattle.store.specs.Views.{stored, linked};
@@ -34,19 +33,6 @@ fn segment_fits(nodes: &[u64], letters: &[u8], c: Counts, more: usize) -> bool
     c.letters + more <= 16777216
 }
 
-// The letters of a segment, from `at` on; the place after them.
-fn put_letters(letters: &mut [u8], at: usize, s: &[u8]) -> usize
-    requires { ⌜ at + length (now s) ≤ length (now letters) ⌝ }
-    ensures { λ r. ⌜ Put (now (letters .entry)) at (now (s .entry)) (now (letters .exit)) r ⌝ }
-{
-    let mut i: usize = 0;
-    while i < s.len() {
-        letters[at + i] = s[i];
-        i += 1;
-    }
-    at + s.len()
-}
-
 // 7, or the segment at the end.
 fn append_segment(nodes: &mut [u64], letters: &mut [u8], c: Counts, id: u64, s: &[u8]) -> Read
     requires { ⌜ (4 * c .nodes ≤ length (now nodes)) × (c .letters ≤ length (now letters)) ⌝ }
@@ -63,7 +49,7 @@ fn append_segment(nodes: &mut [u64], letters: &mut [u8], c: Counts, id: u64, s: 
     let count = c.nodes;
     let at = c.letters;
     split::push_node(nodes, count, id, at as u64, s.len() as u64, 0);
-    let end = put_letters(letters, at, s);
+    let end = kit::put_bytes(letters, at, s);
     let counts = Counts {
         nodes: count + 1,
         letters: end,

@@ -19,14 +19,14 @@ use Rattle.store.specs.Graph.{Node, Graph}
 use Rattle.store.specs.Views.{lenOf, liveNode, largest}
 use Rattle.formed.specs.WellFormed.{goodGraph, idsOnce}
 use Rattle.formed.proofs.Says.{graph-says}
-use Rattle.events.specs.Events.{Rule, Rules, keyed, Event, appendAll}
+use Rattle.events.specs.Events.{Rule, Rules, keyed, Event, appendAll, rulesFrom}
 use Rattle.events.specs.WellFormed.{goodRule, goodStep, goodTable, hasStep, keysOnce, inOrder}
 use Rattle.merging.specs.Merging.{isForward, collapsed}
 use Rattle.merging.specs.Plan.{longBy, prefixBy, suffixBy}
 use Rattle.merged.proofs.Members.{Collapses}
 use Rattle.collapsing.specs.Making.{State, state, stateAfter, membersNumber, listNumber, longer}
 use Rattle.longer.specs.Ahead.{eventsBy, keysNew, stepsNew}
-use Rattle.longer.proofs.Appending.{rulesFrom, rules-longer}
+use Rattle.longer.proofs.Appending.{rules-longer}
 use Rattle.collapsing.proofs.Apart.{events-apart, live-known}
 use Rattle.longer.proofs.ByMember.{ids-once, event-of}
 use Rattle.collapsing.proofs.Foreseen.{events-are}

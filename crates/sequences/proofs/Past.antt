@@ -22,12 +22,12 @@ use Rattle.merging.specs.Merging.{isLong, isForward, cutAt, alone, prefixOf, su
 use Rattle.merging.specs.Plan.{prefixBy}
 use Rattle.merged.proofs.NodesAlone.{stored-marked, len-marked}
 use Rattle.merged.proofs.Dim.{live-buried, live-beside}
-use Rattle.merged.proofs.Formed.{live-stored}
 use Rattle.merged.proofs.Alone.{Member, Turn}
 use Rattle.merged.proofs.Members.{Collapses, member, same-len}
 use Rattle.merged.proofs.Theorems.{Shares, turn, left, still, first, others, shares}
 use Rattle.longer.specs.Ahead.{eventsBy}
 use Rattle.longer.proofs.ByMember.{startAt, events-run, run-of}
+use Rattle.store.proofs.Lookups.{live-stored}
 
 -- the nodes that were are stored, none longer, and none live that was not
 pub record Less (rs ts : List Node) : Type 0 where

@@ -11,20 +11,29 @@ ghost use Rattle.handle.specs.Edge.{edge};
 ghost use Rattle.store.specs.Graph.{link, nodesOf};
 ghost use Rattle.store.specs.Views.{liveNode, liveLinked};
 ghost use Rattle.sides.specs.Sides.{rightEnds, rightOf, leftEnds, leftOf, leftIn, sameLeft, nextAbove, nthOf, bare};
-ghost use Rattle.sides.specs.Search.{lowest, sideEnds, sideOf};
+ghost use Rattle.sides.specs.Search.{lower, lowest, sideEnds, sideOf};
 
-// The lower of u, where it is given and above `above`, and the best so far; 0 is none so far.
-fn offer(given: bool, u: Handle, above: u64, best: u64) -> u64
-    ensures { λ r. ⌜ r ≡ lowest above best (cond given (u ∷ []) []) ⌝ }
+// The lower of n, where it is above `above`, and the best so far; 0 is none so far.
+pub fn lower(above: u64, n: u64, best: u64) -> u64
+    ensures { λ r. ⌜ r ≡ lower above n best ⌝ }
 {
-    let n = u.packed;
-    if !given || n <= above {
+    if n <= above {
         return best;
     }
     if best == 0 || n < best {
         return n;
     }
     best
+}
+
+// The same with u, where it is given.
+fn offer(given: bool, u: Handle, above: u64, best: u64) -> u64
+    ensures { λ r. ⌜ r ≡ lowest above best (cond given (u ∷ []) []) ⌝ }
+{
+    if !given {
+        return best;
+    }
+    lower(above, u.packed, best)
 }
 
 // Where a link leads from v: by its own form, and by its other one.

@@ -15,26 +15,6 @@ use Rattle.affix.specs.Prefix.{handlesOf}
 use Rattle.kit.proofs.Steps.{left-at}
 use Rattle.affix.proofs.Runs.{left-handle, no-handle}
 
--- the first i elements of s stand in the room from `at` on
-pub record Putting (s : List ℕ) (at : ℕ) (out₀ out : List ℕ) (i : ℕ) : Type 0 where
-  pub same : length out ≡ length out₀
-  pub along : i ≤ length s
-  pub left : sets out (at + i) (drop i s) ≡ sets out₀ at s
-
-pub putting-none : (s : List ℕ) (at : ℕ) (out : List ℕ) → Putting s at out out 0
-putting-none s at out = record { same = refl; along = omega arith; left = rw add-zero }
-
-module _ {s : List ℕ} {at : ℕ} {out₀ out : List ℕ} {i : ℕ} (p : Putting s at out₀ out i) where
-  pub putting-next : (x : ℕ) → x ≡ getD s i 0 → i < length s → Putting s at out₀ (set out (at + i) x) (i + 1)
-  putting-next x e h =
-      let q : at + (i + 1) ≡ suc (at + i) = omega arith in
-      let n : sets (set out (at + i) x) (at + (i + 1)) (drop (i + 1) s) ≡ sets out (at + i) (drop i s) = rw (left-at s i 0 h, q, e) in
-      record { same = simp length-set (p .same); along = omega arith; left = n ∙ p .left }
-
-  pub putting-all : length s ≤ i → Put out₀ at s out (at + length s)
-  putting-all h =
-      record { place = refl; bytes = sym (ap (sets out (at + i)) (drop-of-length-le s {i = i} h)) ∙ p .left }
-
 -- what f gives for the first i steps of a walk stands at the front of the room, which goes on at `at`
 pub record Writing (f : Handle → List ℕ) (walk out₀ out : List ℕ) (at i : ℕ) : Type 0 where
   pub same : length out ≡ length out₀

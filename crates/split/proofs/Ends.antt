@@ -11,7 +11,7 @@ use Rattle.handle.specs.declared.Edge.{Edge}
 use Rattle.handle.specs.Handle.{idOf, flip, sameHandle}
 use Rattle.handle.specs.Edge.{edge, turned, written, sameEnds, sameLink}
 use Rattle.handle.proofs.Handles.{flip-flip, id-flip, flip-packed, same-handle}
-use Rattle.handle.proofs.Edges.{same-ends, written-turned, written-either, written-same, same-written}
+use Rattle.handle.proofs.Edges.{same-ends, written-either, written-same, link-of}
 use Rattle.split.specs.Split.{moveEnds}
 
 -- one end
@@ -62,19 +62,16 @@ moves-inj v f e e′ a b q =
 forms : (e e′ : Edge) → sameLink e e′ ≡ true → (e ≡ e′) ⊎ (turned e ≡ e′)
 forms e e′ t = ⊎-elim (λ p. inl (same-ends e e′ p)) (λ p. inr (same-ends (turned e) e′ p)) (or-cases (sameEnds e e′) (sameEnds (turned e) e′) t)
 
-of-forms : (e e′ : Edge) → (e ≡ e′) ⊎ (turned e ≡ e′) → sameLink e e′ ≡ true
-of-forms e e′ c = same-written e e′ (⊎-elim (λ p. ap written p) (λ p. sym (written-turned e) ∙ ap written p) c)
-
 -- two links are the same after the move exactly when they were
 pub moves-same : (v f : Handle) (e e′ : Edge) → Away f e → Away f e′ → sameLink (moveEnds v f e) (moveEnds v f e′) ≡ sameLink e e′
 moves-same v f e e′ a b =
     same-test _ _
-    (λ t. of-forms e e′
+    (λ t. link-of e e′
     (⊎-elim
     (λ p. inl (moves-inj v f e e′ a b p))
     (λ p. inr (moves-inj v f (turned e) e′ (away-turned a) b (moves-turned v f e ∙ p)))
     (forms (moveEnds v f e) (moveEnds v f e′) t)))
-    (λ t. of-forms (moveEnds v f e) (moveEnds v f e′)
+    (λ t. link-of (moveEnds v f e) (moveEnds v f e′)
     (⊎-elim
     (λ p. inl (ap (moveEnds v f) p))
     (λ p. inr (sym (moves-turned v f e) ∙ ap (moveEnds v f) p))

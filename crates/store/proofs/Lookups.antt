@@ -10,11 +10,12 @@ use lib.ListN.{getD}
 use Rattle.kit.specs.declared.Found.the-variants.{At, Nothing}
 use Rattle.kit.proofs.Laws.{length-decode}
 use Rattle.kit.proofs.Steps.{found-at}
-use Rattle.kit.proofs.Meaning.{first-found, first-none, found-any, nothing-any}
+use Rattle.kit.proofs.Meaning.{first-found, first-none, found-any, nothing-any, any-some, any-mem}
 use Rattle.handle.specs.declared.Edge.{Edge}
 use Rattle.store.specs.Graph.{Node, Link, node, nodeLayout, linkLayout, nodesOf, linksOf}
-use Rattle.store.specs.Views.{named, findNode, stored, nodeNamed, joins, findLink, linked}
+use Rattle.store.specs.Views.{named, findNode, stored, nodeNamed, joins, findLink, linked, liveHere, liveNode, unmarkedNode}
 use Rattle.store.proofs.Fields.{nodeAt, linkAt, node-is, link-is}
+use Rattle.kit.proofs.Bools.{and-true-l}
 
 -- slot i holds the node with this id
 pub record NodeFound (n : ℕ) (l : List ℕ) (id i : ℕ) : Type 0 where
@@ -58,3 +59,9 @@ link-found n l e i q =
 
 pub link-nowhere : (e : Edge) (rs : List Link) → findLink e rs ≡ Nothing → linked e rs ≡ false
 link-nowhere e rs q = nothing-any (joins e) 0 rs q
+
+-- a live node is stored
+pub live-stored : (id : ℕ) (rs : List Node) → liveNode id rs ≡ true → stored id rs ≡ true
+live-stored id rs t =
+    let r = any-some (liveHere id) rs t in
+    any-mem (named id) (r .1) (and-true-l (named id (r .0)) (unmarkedNode (r .0)) (r .2))

@@ -13,22 +13,8 @@ ghost use Rattle.store.specs.Graph.{nodesOf, linksOf};
 ghost use Rattle.store.specs.Views.{liveNode};
 ghost use Rattle.formed.specs.WellFormed.{linksOnce};
 ghost use Rattle.sides.specs.Sides.{nextAbove, bare};
-ghost use Rattle.sides.specs.Search.{lower};
 ghost use Rattle.writing.specs.GraphText.{liveSegments, liveLinks};
 ghost use Rattle.writing.specs.Search.{nextAfter, sooner};
-
-// The lower of n, where it is above `above`, and the best so far; 0 is none so far.
-fn lower(above: u64, n: u64, best: u64) -> u64
-    ensures { λ r. ⌜ r ≡ lower above n best ⌝ }
-{
-    if n <= above {
-        return best;
-    }
-    if best == 0 || n < best {
-        return n;
-    }
-    best
-}
 
 // The packed number of the next live node, forward; 0 where there is none. From the last node to the first, as `lowest` goes.
 pub fn next_segment(nodes: &[u64], count: usize, above: u64) -> u64
@@ -42,7 +28,7 @@ pub fn next_segment(nodes: &[u64], count: usize, above: u64) -> u64
         i -= 1;
         if nodes[4 * i + 3] == 0 {
             let h = Handle::forward(nodes[4 * i]);
-            best = lower(above, h.packed, best);
+            best = sides::lower(above, h.packed, best);
         }
     }
     best

@@ -1,5 +1,5 @@
 // Bytes and numbers, put into a lent room from a place on; each answers the place after them.
-ghost use Prim.Native.Nat.{_+_, _^_, _≤_, _<_};
+ghost use Prim.Native.Nat.{_+_, _^_, _<_};
 ghost use mathlib.Core.List.{[], _∷_};
 ghost use lib.ListN.{length};
 ghost use Rattle.kit.specs.Put.{Put};
@@ -12,18 +12,6 @@ pub fn put_byte(out: &mut [u8], at: usize, b: u8) -> usize
 {
     out[at] = b;
     at + 1
-}
-
-pub fn put_bytes(out: &mut [u8], at: usize, bytes: &[u8]) -> usize
-    requires { ⌜ at + length (now bytes) ≤ length (now out) ⌝ }
-    ensures { λ r. ⌜ Put (now (out .entry)) at (now (bytes .entry)) (now (out .exit)) r ⌝ }
-{
-    let mut i: usize = 0;
-    while i < bytes.len() {
-        out[at + i] = bytes[i];
-        i += 1;
-    }
-    at + bytes.len()
 }
 
 // The same where the room may be short: only what fits is put, but the place after it is answered all the same.
@@ -46,7 +34,7 @@ pub fn fill_bytes(out: &mut [u8], at: usize, bytes: &[u8]) -> usize
     if out.len() < end {
         return end;
     }
-    put_bytes(out, at, bytes)
+    kit::put_bytes(out, at, bytes)
 }
 
 pub fn fill_number(out: &mut [u8], at: usize, n: u64) -> usize

@@ -1,6 +1,9 @@
-use mathlib.Core.Path.{sym, _∙_}
+use Prim.Native.Nat.{ℕ, _+_, _-_}
+use mathlib.Core.Path.{_≡_, sym, ap, _∙_}
 use native.Mathlib.Omega.{arith}
 use borrow.Author.Needs.{needs}
+use lib.ListN.{take, drop}
+use Rattle.letters.specs.Sequences.{allLetters}
 use Rattle.store.specs.Graph.{node}
 use Rattle.formed.proofs.Says.{node-says, says-node}
 use Rattle.kit.proofs.Bools.{not-true-false, same-test}
@@ -40,14 +43,27 @@ returns-6 c =
     let a = c .before .before .before .before .before .before .before .args in
     sym (not-true-false _ (λ t. let r = node-says (a .text .now) (node (a .id) (a .start) (a .len) (a .mark)) t in omega arith))
 
+add-all-letters : tie.Need-add-all-letters
+add-all-letters c = search needs
+
+sub-all-letters : tie.Need-sub-all-letters
+sub-all-letters c = search needs
+
+part-all-letters-start : tie.Need-part-all-letters-start
+part-all-letters-start c = search needs
+
+part-all-letters-end : tie.Need-part-all-letters-end
+part-all-letters-end c = search needs
+
 all-letters-requires : tie.Need-all-letters-requires
 all-letters-requires c κs = search needs
 
 returns-7 : tie.Need-returns-7
 returns-7 c =
-    let a = c .before .before .before .before .before .before .before .before .args in
+    let a = c .before .before .before .before .before .before .before .before .before .args in
     let r = node (a .id) (a .start) (a .len) (a .mark) in
-    c .all-letters .ensures ∙ same-test _ _
+    let n : a .start + a .len - a .start ≡ a .len = omega arith in
+    c .all-letters .ensures ∙ ap (λ (k : ℕ). allLetters (take k (drop (a .start) (a .text .now)))) n ∙ same-test _ _
     (λ t. says-node (a .text .now) r (record {
       id-low = omega arith;
       id-high = omega arith;
@@ -69,5 +85,9 @@ good-node-spec =
     returns-5
     sub-if6
     returns-6
+    add-all-letters
+    sub-all-letters
+    part-all-letters-start
+    part-all-letters-end
     all-letters-requires
     returns-7)

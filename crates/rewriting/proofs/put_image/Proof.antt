@@ -7,13 +7,13 @@ use lib.ListN.{length}
 use Rattle.kit.specs.Put.{Put}
 use Rattle.groups.specs.Groups.{numbers}
 use Rattle.events.specs.Events.{rule, stepsOf}
-use Rattle.spelling.proofs.Writing.{Putting, putting-none, putting-next, putting-all}
 use Rattle.rewriting.specs.Rewriting.{nodesOn}
 use Rattle.rewriting.specs.Measure.{towards}
 use Rattle.rewriting.proofs.Tables.{length-on}
 use Rattle.rewriting.proofs.Images.{length-numbers, length-towards}
 use Rattle.rewriting.proofs.put_image.Statement.{statement}
 use Rattle.rewriting.proofs.put_image.Tie as tie
+use Rattle.kit.proofs.Writes.{Putting, putting-none, putting-next, putting-all}
 
 abbrev Inv-loop : tie.InvT-loop
 Inv-loop steps total first count direction at out₀ j₀ out j = Putting (numbers (towards direction (nodesOn (stepsOf total steps) (rule 0 0 first count)))) at out₀ out j

@@ -11,9 +11,9 @@ use Rattle.store.specs.Views.{spell}
 use Rattle.affix.specs.declared.Reading.{Reading}
 use Rattle.affix.specs.Reading.{Readable, readingOf, read}
 use Rattle.affix.proofs.LookedUp.{inside, reads, length-read}
-use Rattle.spelling.proofs.Writing.{Putting, putting-none, putting-next, putting-all}
 use Rattle.spelling.proofs.put_letters.Statement.{statement}
 use Rattle.spelling.proofs.put_letters.Tie as tie
+use Rattle.kit.proofs.Writes.{Putting, putting-none, putting-next, putting-all}
 
 abbrev Inv-loop : tie.InvT-loop
 Inv-loop nodes text step at out₀ r len i₀ out i = Putting (read text r) at out₀ out i

@@ -15,15 +15,16 @@ use Rattle.store.specs.Views.{stored, liveNode}
 use Rattle.affix.specs.Prefix.{handlesOf, membersLive}
 use Rattle.affix.proofs.Runs.{left-handle}
 use Rattle.events.specs.Events.{listOf}
-use Rattle.merged.proofs.Formed.{live-stored}
 use Rattle.longer.specs.declared.Run.{Run}
 use Rattle.longer.specs.Longer.{beginning}
-use Rattle.collapsing.specs.Put.{Storable, stateBy}
+use Rattle.collapsing.specs.Put.{stateBy}
 use Rattle.collapsing.specs.Outcome.{lent, firstOf}
 use Rattle.longer.proofs.Turns.{first-fits}
-use Rattle.collapsing.proofs.Stored.{remark-length, all-stored}
+use Rattle.collapsing.proofs.Stored.{all-stored}
 use Rattle.collapsing.proofs.make.make.Statement.{statement}
 use Rattle.collapsing.proofs.make.make.Tie as tie
+use Rattle.store.proofs.Lookups.{live-stored}
+use Rattle.merging.proofs.Putting.{remark-length}
 
 are-stored : (nodes : List Node) (ms : List Handle) → membersLive nodes ms ≡ true → all (λ m. stored (idOf m) nodes) ms ≡ true
 are-stored nodes ms t = all-of _ ms (λ m k. live-stored (idOf m) nodes (all-mem (λ (u : Handle). liveNode (idOf u) nodes) t k))

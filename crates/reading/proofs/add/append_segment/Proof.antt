@@ -37,8 +37,8 @@ returns c =
 push-node-requires : tie.Need-push-node-requires
 push-node-requires c κs = fits (c .before) .node-room
 
-put-letters-requires : tie.Need-put-letters-requires
-put-letters-requires c κs = fits (c .before .before .before .before .before) .letter-room
+put-bytes-requires : tie.Need-put-bytes-requires
+put-bytes-requires c κs = fits (c .before .before .before .before .before) .letter-room
 
 add-t15 : tie.Need-add-t15
 add-t15 c =
@@ -59,9 +59,9 @@ returns-2 c =
     let e = n .before .before in
     let s = e .before .before .before .before .before .before .before in
     let a = s .args in (
-      (omega (arith, fits e .node-room), omega (arith, fits e .letter-room, p .put-letters .ensures .place)),
+      (omega (arith, fits e .node-room), omega (arith, fits e .letter-room, p .put-bytes .ensures .place)),
       λ links l g h.
-          segment-stored h (a .id) (a .s .now) (s .pre .1) (e .before .segment-fits .ensures) (not-false _ (e .if1 .left)) (n .push-node .ensures) (p .put-letters .ensures .bytes) (p .put-letters .ensures .place),
+          segment-stored h (a .id) (a .s .now) (s .pre .1) (e .before .segment-fits .ensures) (not-false _ (e .if1 .left)) (n .push-node .ensures) (p .put-bytes .ensures .bytes) (p .put-bytes .ensures .place),
     )
 
 pub append-segment-spec : {M : Type 1} → statement M
@@ -73,7 +73,7 @@ append-segment-spec =
     same-length-2
     returns
     push-node-requires
-    put-letters-requires
+    put-bytes-requires
     add-t15
     same-length-3
     same-length-4

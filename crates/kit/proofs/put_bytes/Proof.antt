@@ -2,9 +2,9 @@ use Prim.Native.Nat.{_-_}
 use mathlib.Core.Path.{refl}
 use borrow.Author.Needs.{needs}
 use lib.ListN.{length}
-use Rattle.spelling.proofs.Writing.{Putting, putting-none, putting-next, putting-all}
-use Rattle.writing.proofs.put.put_bytes.Statement.{statement}
-use Rattle.writing.proofs.put.put_bytes.Tie as tie
+use Rattle.kit.proofs.Writes.{Putting, putting-none, putting-next, putting-all}
+use Rattle.kit.proofs.put_bytes.Statement.{statement}
+use Rattle.kit.proofs.put_bytes.Tie as tie
 
 abbrev Inv-loop : tie.InvT-loop
 Inv-loop out₀ at bytes i₀ out i = Putting bytes at out₀ out i

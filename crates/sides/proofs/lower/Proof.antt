@@ -1,7 +1,7 @@
 use mathlib.Core.Logic.{⊎-elim}
 use borrow.Author.Tests.{eq-eqb, ne-eqb, lt-ltb, le-ltb}
-use Rattle.choosing.proofs.lower.Statement.{statement}
-use Rattle.choosing.proofs.lower.Tie as tie
+use Rattle.sides.proofs.lower.Statement.{statement}
+use Rattle.sides.proofs.lower.Tie as tie
 
 returns : tie.Need-returns
 returns c =
