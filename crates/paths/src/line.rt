@@ -4,10 +4,10 @@ use drawing::cap::add_fields;
 use drawing::walk::add_path;
 use drawing::walk::add_walk;
 use events::Used;
+use lines::next_line;
 use store::Counts;
 use text::pieces::field;
 use text::pieces::is_line;
-use text::pieces::piece_end;
 ghost use Prim.Native.Nat.{_*_, _≤_};
 ghost use mathlib.Core.Path.{_≡_};
 ghost use mathlib.Core.Bool.{true};
@@ -101,7 +101,7 @@ pub fn add_lines(
     let mut place: usize = 0;
     let mut from: usize = 0;
     loop {
-        let end = piece_end(text, from, b'\n');
+        let end = next_line(text, from);
         place = add_line(
             nodes,
             c,

@@ -1,8 +1,8 @@
 // What the P and W lines of a text are refused for. Other lines are not looked at.
 use fields::line_number;
+use lines::next_line;
 use reading::steps::said_stored;
 use text::pieces::is_line;
-use text::pieces::piece_end;
 ghost use Prim.Native.Nat.{_*_, _≤_};
 ghost use mathlib.Core.Path.{_≡_};
 ghost use mathlib.Core.Bool.{true, cond};
@@ -37,7 +37,7 @@ fn first_number(text: &[u8]) -> u64
 {
     let mut from: usize = 0;
     loop {
-        let end = piece_end(text, from, b'\n');
+        let end = next_line(text, from);
         let number = own_number(&text[from..end]);
         if number != 0 {
             return number;
@@ -66,7 +66,7 @@ fn lines_stored(nodes: &[u64], count: usize, text: &[u8]) -> bool
 {
     let mut from: usize = 0;
     loop {
-        let end = piece_end(text, from, b'\n');
+        let end = next_line(text, from);
         if !own_stored(nodes, count, &text[from..end]) {
             return false;
         }

@@ -2,11 +2,11 @@
 use crate::Read;
 use crate::add::add_segment;
 use fields::line_number;
+use lines::next_line;
 use store::Counts;
 use text::names::name_id;
 use text::pieces::field;
 use text::pieces::is_line;
-use text::pieces::piece_end;
 ghost use Prim.Native.Nat.{_*_, _≤_};
 ghost use lib.ListN.{length};
 ghost use Rattle.text.specs.Pieces.{linesOf};
@@ -42,7 +42,7 @@ pub fn pass_one(text: &[u8], nodes: &mut [u64], letters: &mut [u8], c: Counts) -
     let mut used = c;
     let mut at: usize = 0;
     loop {
-        let end = piece_end(text, at, b'\n');
+        let end = next_line(text, at);
         let r = pass_one_line(nodes, letters, used, &text[at..end]);
         if r.number != 0 {
             return r;

@@ -3,9 +3,9 @@ use crate::Read;
 use crate::add::add_link;
 use crate::steps::said_stored;
 use fields::edge_of;
+use lines::next_line;
 use store::Counts;
 use text::pieces::is_line;
-use text::pieces::piece_end;
 ghost use Prim.Native.Nat.{_*_, _≤_};
 ghost use mathlib.Core.Path.{_≡_};
 ghost use lib.ListN.{length};
@@ -43,7 +43,7 @@ pub fn pass_two(text: &[u8], nodes: &[u64], links: &mut [u64], c: Counts) -> Rea
     let mut used = c;
     let mut at: usize = 0;
     loop {
-        let end = piece_end(text, at, b'\n');
+        let end = next_line(text, at);
         let r = pass_two_line(nodes, links, used, &text[at..end]);
         if r.number != 0 {
             return r;

@@ -23,8 +23,8 @@ abbrev μ-loop : tie.MeasureT-loop
 loop-holds : tie.Need-loop-holds Inv-loop μ-loop
 loop-holds c = (search needs, capping-none _ (c .before .before .before .before .before .pre .1))
 
-piece-end-requires : tie.Need-piece-end-requires Inv-loop μ-loop
-piece-end-requires c κs = search needs
+next-line-requires : tie.Need-next-line-requires Inv-loop μ-loop
+next-line-requires c κs = search needs
 
 sub-add-line : tie.Need-sub-add-line Inv-loop μ-loop
 sub-add-line c = search needs
@@ -50,7 +50,7 @@ returns c =
     let l = p .before in
     let a = l .before .before .before .before .before .before .args in
     let f = newLine (graphOf (a .nodes .now) [] [] (a .c)) (listOf (a .rules .now) (a .steps .now) (a .u)) in
-    capping-all (capping-next (l .loop .inv .1) (lines-more f (piece-last (p .piece-end .ensures) (c .if1 .taken))) (w .add-line .ensures) (search needs)) refl
+    capping-all (capping-next (l .loop .inv .1) (lines-more f (piece-last (p .next-line .ensures) (c .if1 .taken))) (w .add-line .ensures) (search needs)) refl
 
 same-length-2 : tie.Need-same-length-2 Inv-loop μ-loop
 same-length-2 c = search needs
@@ -63,7 +63,7 @@ returns-2 c =
     let l = p .before in
     let a = l .before .before .before .before .before .before .args in
     let f = newLine (graphOf (a .nodes .now) [] [] (a .c)) (listOf (a .rules .now) (a .steps .now) (a .u)) in
-    capping-stop (capping-next (l .loop .inv .1) (lines-more f (piece-more (p .piece-end .ensures) (e .if1 .left))) (w .add-line .ensures) (search needs)) (c .if2 .taken)
+    capping-stop (capping-next (l .loop .inv .1) (lines-more f (piece-more (p .next-line .ensures) (e .if1 .left))) (w .add-line .ensures) (search needs)) (c .if2 .taken)
 
 add-from : tie.Need-add-from Inv-loop μ-loop
 add-from c = search needs
@@ -79,7 +79,7 @@ loop-again c =
     let l = p .before in
     let a = l .before .before .before .before .before .before .args in
     let f = newLine (graphOf (a .nodes .now) [] [] (a .c)) (listOf (a .rules .now) (a .steps .now) (a .u)) in
-    (search needs, capping-next (l .loop .inv .1) (lines-more f (piece-more (p .piece-end .ensures) (e .if1 .left))) (w .add-line .ensures) (search needs))
+    (search needs, capping-next (l .loop .inv .1) (lines-more f (piece-more (p .next-line .ensures) (e .if1 .left))) (w .add-line .ensures) (search needs))
 
 pub add-lines-spec : {M : Type 1} → statement M
 add-lines-spec =
@@ -88,7 +88,7 @@ add-lines-spec =
     Inv-loop
     μ-loop
     loop-holds
-    piece-end-requires
+    next-line-requires
     sub-add-line
     part-add-line-start
     part-add-line-end

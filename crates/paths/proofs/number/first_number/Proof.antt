@@ -28,8 +28,8 @@ abbrev μ-loop : tie.MeasureT-loop
 loop-holds : tie.Need-loop-holds Inv-loop μ-loop
 loop-holds c = (search needs, first-kept isPathLine lineNumber (linesOf (c .before .args .text .now)))
 
-piece-end-requires : tie.Need-piece-end-requires Inv-loop μ-loop
-piece-end-requires c κs = search needs
+next-line-requires : tie.Need-next-line-requires Inv-loop μ-loop
+next-line-requires c κs = search needs
 
 sub-own-number : tie.Need-sub-own-number Inv-loop μ-loop
 sub-own-number c = search needs
@@ -46,14 +46,14 @@ own-number-requires c κs = search needs
 -- a line that is not refused leaves those after it
 passed : (c : tie.Else1 Inv-loop μ-loop) →
     let text = c .before .before .before .before .before .before .args .text .now in
-    firstNumber own (after 10 text (c .before .before .before .piece-end .result)) ≡ firstNumber lineNumber (keep isPathLine (linesOf text))
+    firstNumber own (after 10 text (c .before .before .before .next-line .result)) ≡ firstNumber lineNumber (keep isPathLine (linesOf text))
 passed c =
-    let line = c .before .before .before .piece-end .ensures in
+    let line = c .before .before .before .next-line .ensures in
     first-passed own (line .cut) (c .before .own-number .ensures) (c .before .before .before .before .loop .inv .1) (c .if1 .left)
 
 returns : tie.Need-returns Inv-loop μ-loop
 returns c =
-    let line = c .before .before .before .piece-end .ensures in
+    let line = c .before .before .before .next-line .ensures in
     first-refused own (line .cut) (c .before .own-number .ensures) (c .before .before .before .before .loop .inv .1) (c .if1 .taken)
 
 returns-2 : tie.Need-returns-2 Inv-loop μ-loop
@@ -75,7 +75,7 @@ first-number-spec =
     Inv-loop
     μ-loop
     loop-holds
-    piece-end-requires
+    next-line-requires
     sub-own-number
     part-own-number-start
     part-own-number-end

@@ -34,8 +34,8 @@ loop-holds c =
     let a = c .before .before .args in
     (search needs, all-kept isPathLine (said (nodesOf (a .count) (a .nodes .now))) (linesOf (a .text .now)))
 
-piece-end-requires : tie.Need-piece-end-requires Inv-loop μ-loop
-piece-end-requires c κs = search needs
+next-line-requires : tie.Need-next-line-requires Inv-loop μ-loop
+next-line-requires c κs = search needs
 
 sub-own-stored : tie.Need-sub-own-stored Inv-loop μ-loop
 sub-own-stored c = search needs
@@ -53,16 +53,16 @@ own-stored-requires c κs = search needs
 passed : (c : tie.Else1 Inv-loop μ-loop) →
     let a = c .before .before .before .before .before .before .before .args in
     let nodes = nodesOf (a .count) (a .nodes .now) in
-    all (own nodes) (after 10 (a .text .now) (c .before .before .before .piece-end .result)) ≡ all (said nodes) (keep isPathLine (linesOf (a .text .now)))
+    all (own nodes) (after 10 (a .text .now) (c .before .before .before .next-line .result)) ≡ all (said nodes) (keep isPathLine (linesOf (a .text .now)))
 passed c =
     let a = c .before .before .before .before .before .before .before .args in
-    let line = c .before .before .before .piece-end .ensures in
+    let line = c .before .before .before .next-line .ensures in
     sym (all-pass (own (nodesOf (a .count) (a .nodes .now))) (line .cut) (sym (c .before .own-stored .ensures) ∙ not-false _ (c .if1 .left))) ∙ c .before .before .before .before .loop .inv .1
 
 returns : tie.Need-returns Inv-loop μ-loop
 returns c =
     let a = c .before .before .before .before .before .before .before .args in
-    let line = c .before .before .before .piece-end .ensures in
+    let line = c .before .before .before .next-line .ensures in
     sym (all-fail (own (nodesOf (a .count) (a .nodes .now))) (line .cut) (sym (c .before .own-stored .ensures) ∙ not-true _ (c .if1 .taken))) ∙ c .before .before .before .before .loop .inv .1
 
 returns-2 : tie.Need-returns-2 Inv-loop μ-loop
@@ -84,7 +84,7 @@ lines-stored-spec =
     Inv-loop
     μ-loop
     loop-holds
-    piece-end-requires
+    next-line-requires
     sub-own-stored
     part-own-stored-start
     part-own-stored-end

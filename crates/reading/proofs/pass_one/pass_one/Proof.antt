@@ -41,8 +41,8 @@ loop-holds c =
       turn = λ links l g h. record { graph = g; held = h; left = refl };
     }
 
-piece-end-requires : tie.Need-piece-end-requires Inv-loop μ-loop
-piece-end-requires c κs = c .loop .inv .bound
+next-line-requires : tie.Need-next-line-requires Inv-loop μ-loop
+next-line-requires c κs = c .loop .inv .bound
 
 sub-pass-one-line : tie.Need-sub-pass-one-line Inv-loop μ-loop
 sub-pass-one-line c = search needs
@@ -69,7 +69,7 @@ returns c =
     let at = q .before in
     λ links l g h.
     let t = at .loop .inv .turn links l g h in
-    line-refused t (q .piece-end .ensures .cut) (v .pass-one-line .ensures .1 links l (t .graph) (t .held)) (c .if1 .taken)
+    line-refused t (q .next-line .ensures .cut) (v .pass-one-line .ensures .1 links l (t .graph) (t .held)) (c .if1 .taken)
 
 same-length-3 : tie.Need-same-length-3 Inv-loop μ-loop
 same-length-3 c = search needs
@@ -84,7 +84,7 @@ returns-2 c =
     let at = q .before in
     λ links l g h.
     let t = at .loop .inv .turn links l g h in
-    line-last t (piece-last (q .piece-end .ensures) (c .if2 .taken)) (v .pass-one-line .ensures .1 links l (t .graph) (t .held)) refl
+    line-last t (piece-last (q .next-line .ensures) (c .if2 .taken)) (v .pass-one-line .ensures .1 links l (t .graph) (t .held)) refl
 
 add-at : tie.Need-add-at Inv-loop μ-loop
 add-at c = search needs
@@ -99,7 +99,7 @@ loop-again c =
     let q = v .before .before .before .before in
     let at = q .before in
     record {
-      bound = omega (arith, q .piece-end .ensures .high, e .if2 .left);
+      bound = omega (arith, q .next-line .ensures .high, e .if2 .left);
       nodes-size = omega (arith, at .loop .inv .nodes-size);
       letters-size = omega (arith, at .loop .inv .letters-size);
       node-room = v .pass-one-line .ensures .0 .0;
@@ -107,7 +107,7 @@ loop-again c =
       turn =
           λ links l g h.
           let t = at .loop .inv .turn links l g h in
-          line-passed t (piece-more (q .piece-end .ensures) (e .if2 .left)) (v .pass-one-line .ensures .1 links l (t .graph) (t .held)) (e .before .if1 .left);
+          line-passed t (piece-more (q .next-line .ensures) (e .if2 .left)) (v .pass-one-line .ensures .1 links l (t .graph) (t .held)) (e .before .if1 .left);
     }
 
 pub pass-one-spec : {M : Type 1} → statement M
@@ -117,7 +117,7 @@ pass-one-spec =
     Inv-loop
     μ-loop
     loop-holds
-    piece-end-requires
+    next-line-requires
     sub-pass-one-line
     part-pass-one-line-start
     part-pass-one-line-end

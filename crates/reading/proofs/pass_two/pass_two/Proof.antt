@@ -39,8 +39,8 @@ loop-holds c =
       turn = λ letters l g h. record { graph = g; held = h; left = refl };
     }
 
-piece-end-requires : tie.Need-piece-end-requires Inv-loop μ-loop
-piece-end-requires c κs = c .loop .inv .bound
+next-line-requires : tie.Need-next-line-requires Inv-loop μ-loop
+next-line-requires c κs = c .loop .inv .bound
 
 sub-pass-two-line : tie.Need-sub-pass-two-line Inv-loop μ-loop
 sub-pass-two-line c = search needs
@@ -66,7 +66,7 @@ returns c =
     let at = q .before in
     λ letters l g h.
     let t = at .loop .inv .turn letters l g h in
-    line-refused t (q .piece-end .ensures .cut) (v .pass-two-line .ensures .1 letters l (t .graph) (t .held)) (c .if1 .taken)
+    line-refused t (q .next-line .ensures .cut) (v .pass-two-line .ensures .1 letters l (t .graph) (t .held)) (c .if1 .taken)
 
 same-length-2 : tie.Need-same-length-2 Inv-loop μ-loop
 same-length-2 c = search needs
@@ -78,7 +78,7 @@ returns-2 c =
     let at = q .before in
     λ letters l g h.
     let t = at .loop .inv .turn letters l g h in
-    line-last t (piece-last (q .piece-end .ensures) (c .if2 .taken)) (v .pass-two-line .ensures .1 letters l (t .graph) (t .held)) refl
+    line-last t (piece-last (q .next-line .ensures) (c .if2 .taken)) (v .pass-two-line .ensures .1 letters l (t .graph) (t .held)) refl
 
 add-at : tie.Need-add-at Inv-loop μ-loop
 add-at c = search needs
@@ -93,14 +93,14 @@ loop-again c =
     let q = v .before .before .before in
     let at = q .before in
     record {
-      bound = omega (arith, q .piece-end .ensures .high, e .if2 .left);
+      bound = omega (arith, q .next-line .ensures .high, e .if2 .left);
       links-size = omega (arith, at .loop .inv .links-size);
       same-nodes = v .pass-two-line .ensures .0 .0 ∙ at .loop .inv .same-nodes;
       link-room = v .pass-two-line .ensures .0 .1;
       turn =
           λ letters l g h.
           let t = at .loop .inv .turn letters l g h in
-          line-passed t (piece-more (q .piece-end .ensures) (e .if2 .left)) (v .pass-two-line .ensures .1 letters l (t .graph) (t .held)) (e .before .if1 .left);
+          line-passed t (piece-more (q .next-line .ensures) (e .if2 .left)) (v .pass-two-line .ensures .1 letters l (t .graph) (t .held)) (e .before .if1 .left);
     }
 
 pub pass-two-spec : {M : Type 1} → statement M
@@ -110,7 +110,7 @@ pass-two-spec =
     Inv-loop
     μ-loop
     loop-holds
-    piece-end-requires
+    next-line-requires
     sub-pass-two-line
     part-pass-two-line-start
     part-pass-two-line-end
