@@ -1,27 +1,26 @@
 -- Going along the live nodes and their directions: the laws of the search in no order.
-use Prim.Native.Nat.{ℕ, _+_, _-_, _*_, _≤_, _<_}
+use Prim.Native.Nat.{ℕ, _-_, _≤_, _<_}
 use mathlib.Core.Path.{_≡_, refl, sym, ap, _∙_}
 use mathlib.Core.Bool.{Bool, true, false}
-use mathlib.Core.List.{List, _∷_, List·Memᴰ, List·Memᴰ·head, List·Memᴰ·tail, List·Memᴰ·cases-cons, List·Memᴰ·eq-of-singleton}
+use mathlib.Core.List.{List, List·Memᴰ, List·Memᴰ·head, List·Memᴰ·tail, List·Memᴰ·cases-cons, List·Memᴰ·eq-of-singleton}
 use mathlib.Core.Logic.{⊎-elim}
 use native.Mathlib.Omega.{arith}
-use borrow.Author.Tests.{eq-eqb, eqb-true, leb-true, le-leb, ltb-true}
-use lib.Dec.{eqb, leb, ltb}
-use lib.ListN.{take, drop, getD}
+use borrow.Author.Tests.{eq-eqb, eqb-true, ltb-true}
+use lib.Dec.{eqb, ltb}
+use lib.ListN.{take, drop}
 use Rattle.kit.specs.Loops.{all, keep, lines}
 use Rattle.kit.proofs.Bools.{tests, never, and-true-l, and-true-r, and-both}
-use Rattle.kit.proofs.Laws.{length-decode}
-use Rattle.kit.proofs.Meaning.{all-at, all-mem, all-of, any-mem, any-some}
+use Rattle.kit.proofs.Meaning.{any-mem, any-some}
 use Rattle.kit.proofs.Members.{in-keep, of-keep, in-lines, of-lines}
 use Rattle.handle.specs.declared.Handle.{Handle}
-use Rattle.handle.specs.Handle.{maxId, isId, pack, idOf, dirOf}
+use Rattle.handle.specs.Handle.{isId, pack, idOf, dirOf}
 use Rattle.handle.proofs.Handles.{handle-eq, id-pack}
 use Rattle.store.specs.declared.Counts.{Counts}
-use Rattle.store.specs.Graph.{Node, nodeLayout, nodesOf}
+use Rattle.store.specs.Graph.{Node, nodesOf}
 use Rattle.store.specs.Views.{named, unmarkedNode, liveHere, liveNode}
-use Rattle.store.proofs.Fields.{nodeAt, left-node, node-is}
-use Rattle.formed.specs.WellFormed.{goodNode, wellFormed}
-use Rattle.formed.proofs.Says.{node-says, formed-good}
+use Rattle.store.proofs.Fields.{nodeAt, back-node}
+use Rattle.formed.specs.WellFormed.{wellFormed}
+use Rattle.formed.proofs.Says.{formed-good, good-ids}
 use Rattle.sides.specs.Sides.{nextAbove}
 use Rattle.sides.specs.Search.{lowest}
 use Rattle.sides.proofs.Rising.{Sorted, rising-sorted, of-rising, in-rising, next-lowest, restAbove, rest-all}
@@ -35,26 +34,14 @@ fromSlot above n l i = lowest above 0 (lines bothWays (keep unmarkedNode (drop i
 
 -- a turn of the loop, from slot i to the one before
 module _ (above n : ℕ) (l : List ℕ) (i best : ℕ) (low : 0 < i) (high : i ≤ n) (e : best ≡ fromSlot above n l i) where
-  step : drop (i - 1) (nodesOf n l) ≡ nodeAt l (i - 1) ∷ drop i (nodesOf n l)
-  step =
-      let q : i - 1 + 1 ≡ i = omega arith in
-      left-node n (i - 1) l (omega arith) ∙ ap (λ (k : ℕ). nodeAt l (i - 1) ∷ drop k (nodesOf n l)) q
-
   pub turn-live : unmarkedNode (nodeAt l (i - 1)) ≡ true → lowest above best (bothWays (nodeAt l (i - 1))) ≡ fromSlot above n l (i - 1)
-  turn-live t = rw (e, step, t) (sym (lowest-append above 0 (bothWays (nodeAt l (i - 1))) (lines bothWays (keep unmarkedNode (drop i (nodesOf n l))))))
+  turn-live t = rw (e, back-node n i l low high, t) (sym (lowest-append above 0 (bothWays (nodeAt l (i - 1))) (lines bothWays (keep unmarkedNode (drop i (nodesOf n l))))))
 
   pub turn-dead : unmarkedNode (nodeAt l (i - 1)) ≡ false → best ≡ fromSlot above n l (i - 1)
-  turn-dead t = rw (step, t) e
+  turn-dead t = rw (back-node n i l low high, t) e
 
 pub next-found : (above n : ℕ) (l : List ℕ) → fromSlot above n l 0 ≡ nextAbove above (scanOrder (nodesOf n l))
 next-found above n l = sym (next-lowest above (lines bothWays (keep unmarkedNode (nodesOf n l))))
-
--- an id in range, where each is
-pub id-high : (n i : ℕ) (l : List ℕ) → all (λ r. isId (r .id)) (nodesOf n l) ≡ true → i < n → getD l (4 * i) 0 ≤ maxId
-id-high n i l t h =
-    let r = nodeAt l i in
-    let e : isId (r .id) ≡ true = sym (ap (λ (x : Node). isId (x .id)) (node-is n i l h r)) ∙ all-at (λ (x : Node). isId (x .id)) (nodesOf n l) t i (omega (arith, length-decode nodeLayout n l)) r in
-    leb-true (r .id) maxId (and-true-r (leb 1 (r .id)) (leb (r .id) maxId) e)
 
 -- who is scanned: the live nodes, either way round
 pub scan-live : (rs : List Node) {u : Handle} → List·Memᴰ u (scanOrder rs) → liveNode (idOf u) rs ≡ true
@@ -86,10 +73,7 @@ scan-sorted rs = rising-sorted (lines bothWays (keep unmarkedNode rs))
 -- in a well-formed store ids are in range, and none scanned has number 0
 module _ (nodes letters links : List ℕ) (c : Counts) (t : wellFormed nodes letters links c ≡ true) where
   pub formed-ids : all (λ r. isId (r .id)) (nodesOf (c .nodes) nodes) ≡ true
-  formed-ids =
-      all-of (λ (r : Node). isId (r .id)) (nodesOf (c .nodes) nodes) (λ r m.
-      let s = node-says (take (c .letters) letters) r (all-mem (goodNode (take (c .letters) letters)) (formed-good nodes letters links c t .nodes-good) m) in
-      and-both _ _ (le-leb 1 (r .id) (s .id-low)) (le-leb (r .id) maxId (s .id-high)))
+  formed-ids = good-ids (take (c .letters) letters) (nodesOf (c .nodes) nodes) (formed-good nodes letters links c t .nodes-good)
 
   scan-number : (u : Handle) → List·Memᴰ u (scanOrder (nodesOf (c .nodes) nodes)) → 0 < u .packed
   scan-number u m = by (ltb 0 (u .packed)) refl

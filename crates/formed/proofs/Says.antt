@@ -17,6 +17,7 @@ use Rattle.store.specs.declared.Counts.{Counts}
 use Rattle.store.specs.Graph.{Node, Link, Graph, ends, graphOf, nodesOf}
 use Rattle.store.specs.Views.{stored, span}
 use Rattle.formed.specs.WellFormed.{roomFor, isMark, goodNode, goodLink, linksOnce, goodGraph, wellFormed, idsOnce, graphNumber}
+use Rattle.kit.proofs.Meaning.{all-mem, all-of}
 
 pub record Room (nodes letters links : List ℕ) (c : Counts) : Type 0 where
   pub few-nodes : c .nodes ≤ 65536
@@ -164,3 +165,10 @@ both-pass false b e = absurd (omega arith)
 
 pub number-zero : (nodes letters links : List ℕ) (c : Counts) → graphNumber nodes letters links c ≡ 0 → (wellFormed nodes letters links c ≡ true) × (idsOnce (nodesOf (c .nodes) nodes) ≡ true)
 number-zero nodes letters links c e = both-pass (wellFormed nodes letters links c) (idsOnce (nodesOf (c .nodes) nodes)) e
+
+-- good nodes have ids in range
+pub good-ids : (letters : List ℕ) (rs : List Node) → all (goodNode letters) rs ≡ true → all (λ r. isId (r .id)) rs ≡ true
+good-ids letters rs t =
+    all-of (λ (r : Node). isId (r .id)) rs (λ r m.
+    let s = node-says letters r (all-mem (goodNode letters) t m) in
+    and-both _ _ (le-leb 1 (r .id) (s .id-low)) (le-leb (r .id) maxId (s .id-high)))

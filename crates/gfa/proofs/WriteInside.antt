@@ -28,9 +28,10 @@ use Rattle.gfa.specs.Narrowings.{narrowLine, namesOnce, namesDeclared, i
 use Rattle.gfa.proofs.WriteFields.{segment-line-gfa, segment-narrow, segment-handles, link-line-gfa, link-narrow, link-handles}
 use Rattle.gfa.proofs.WriteGfa.{Line, of-segment, of-link, at-end, line-of}
 use Rattle.gfa.proofs.WriteLines.{segmentText, linkText, segment-line, link-line, segments-kept}
-use Rattle.gfa.proofs.WriteLive.{segmented, segments-rise, joined}
+use Rattle.gfa.proofs.WriteLive.{segmented, joined}
 use Rattle.gfa.proofs.WritePart.{livePart, placed-stored}
 use Rattle.gfa.proofs.WriteSaid.{segment-said, edge-said, said-live}
+use Rattle.writing.proofs.Theorems.{segments-rise}
 
 -- of a rising list no two are the same
 sorted-distinct : {hs : List Handle} → Sorted hs → distinct sameHandle hs ≡ true

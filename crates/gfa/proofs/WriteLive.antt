@@ -22,7 +22,7 @@ use Rattle.store.specs.Graph.{Node, Link, Graph, node, ends}
 use Rattle.store.specs.Views.{named, stored, nodeNamed, unmarkedNode, liveHere, liveNode, span, spell, liveLink}
 use Rattle.formed.specs.WellFormed.{goodNode, goodLink, goodGraph}
 use Rattle.formed.proofs.Says.{GoodNode, node-says, link-says, graph-says}
-use Rattle.sides.proofs.Rising.{Sorted, rising-sorted, of-rising, in-rising}
+use Rattle.sides.proofs.Rising.{of-rising, in-rising}
 use Rattle.writing.specs.GraphText.{liveSegments, liveLinks}
 use Rattle.store.proofs.Order.{Written, of-order, order-written}
 use Rattle.gfa.proofs.WriteLists.{distinct-keep}
@@ -65,9 +65,6 @@ module _ (g : Graph) (good : goodGraph g ≡ true) where
         some = omega (arith, length-oriented (dirOf h) own, span-length (g .letters) (nodeNamed (idOf h) (g .nodes)) s, s .some-letter);
         letters = oriented-letters (dirOf h) own (s .ten-letters);
       }
-
-pub segments-rise : (nodes : List Node) → Sorted (liveSegments nodes)
-segments-rise nodes = rising-sorted (map forward (keep unmarkedNode nodes))
 
 -- a live node is among them
 pub live-segment : (nodes : List Node) (id : ℕ) → liveNode id nodes ≡ true → List·Memᴰ (pack id 0) (liveSegments nodes)

@@ -28,7 +28,8 @@ use Rattle.text.specs.Bytes.{bytes}
 use Rattle.gfa.specs.Said.{Segment}
 use Rattle.gfa.specs.Holds.{segmentIn, segmentOf, LivePart}
 use Rattle.gfa.proofs.WriteLists.{keep-all, lines-same}
-use Rattle.gfa.proofs.WriteLive.{segmented, segments-rise, joined, links-rise}
+use Rattle.gfa.proofs.WriteLive.{segmented, joined, links-rise}
+use Rattle.writing.proofs.Theorems.{segments-rise}
 
 -- nodes one after another, each with its letters behind those before it
 abbrev pub placed : (Handle → List ℕ) → ℕ → List Handle → List Node

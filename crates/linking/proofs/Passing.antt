@@ -1,6 +1,6 @@
 -- The neighbours on an oriented node's right, by unmarked links: the search for the next, and that those of m stay as they are
 -- while links from x to them are added.
-use Prim.Native.Nat.{ℕ, _+_, _-_, _≤_, _<_}
+use Prim.Native.Nat.{ℕ, _-_, _≤_, _<_}
 use mathlib.Core.Path.{_≡_, refl, sym, ap, _∙_}
 use mathlib.Core.Bool.{Bool, true, false, cond, not}
 use mathlib.Core.List.{List, [], _∷_, _++_, map, append-nil}
@@ -18,7 +18,7 @@ use Rattle.handle.specs.Edge.{edge, written}
 use Rattle.handle.proofs.Handles.{id-flip, flip-packed}
 use Rattle.store.specs.Graph.{Link, link, ends, handle, linksOf}
 use Rattle.store.specs.Views.{linked}
-use Rattle.store.proofs.Fields.{linkAt, left-link}
+use Rattle.store.proofs.Fields.{linkAt, back-link}
 use Rattle.formed.specs.WellFormed.{unmarkedLink}
 use Rattle.sides.specs.Sides.{rightEnds, nextAbove}
 use Rattle.sides.specs.Search.{lowest}
@@ -39,16 +39,11 @@ next-found v above n l = sym (next-lowest above (lines (rightEnds v) (keep unmar
 
 -- a turn of the search, from slot i to the one before
 module _ (v : Handle) (above n : ℕ) (l : List ℕ) (i best : ℕ) (low : 0 < i) (high : i ≤ n) (e : best ≡ fromSlot v above n l i) where
-  step : drop (i - 1) (linksOf n l) ≡ linkAt l (i - 1) ∷ drop i (linksOf n l)
-  step =
-      let q : i - 1 + 1 ≡ i = omega arith in
-      left-link n (i - 1) l (omega arith) ∙ ap (λ (k : ℕ). linkAt l (i - 1) ∷ drop k (linksOf n l)) q
-
   pub turn-unmarked : unmarkedLink (linkAt l (i - 1)) ≡ true → lowest above best (rightEnds v (linkAt l (i - 1))) ≡ fromSlot v above n l (i - 1)
-  turn-unmarked t = rw (e, step, t) (sym (lowest-append above 0 (rightEnds v (linkAt l (i - 1))) (lines (rightEnds v) (keep unmarkedLink (drop i (linksOf n l))))))
+  turn-unmarked t = rw (e, back-link n i l low high, t) (sym (lowest-append above 0 (rightEnds v (linkAt l (i - 1))) (lines (rightEnds v) (keep unmarkedLink (drop i (linksOf n l))))))
 
   pub turn-marked : unmarkedLink (linkAt l (i - 1)) ≡ false → best ≡ fromSlot v above n l (i - 1)
-  turn-marked t = rw (step, t) e
+  turn-marked t = rw (back-link n i l low high, t) e
 
 module _ (m : Handle) where
   -- a node other than m's

@@ -1,15 +1,14 @@
 -- The laws of the search in no order.
-use Prim.Native.Nat.{ℕ, _+_, _-_, _≤_, _<_}
+use Prim.Native.Nat.{ℕ, _-_, _≤_, _<_}
 use mathlib.Core.Path.{_≡_, refl, sym, ap, _∙_}
 use mathlib.Core.Bool.{Bool, true, false}
 use mathlib.Core.List.{List, [], _∷_, _++_}
-use native.Mathlib.Omega.{arith}
 use lib.ListN.{drop}
 use Rattle.kit.specs.Loops.{keep, lines}
 use Rattle.handle.specs.declared.Handle.{Handle}
 use Rattle.store.specs.Graph.{Node, Graph, linksOf}
 use Rattle.store.specs.Views.{liveLink}
-use Rattle.store.proofs.Fields.{linkAt, left-link}
+use Rattle.store.proofs.Fields.{linkAt, back-link}
 use Rattle.sides.specs.Sides.{rising, nextAbove}
 use Rattle.sides.proofs.Rising.{Sorted, rising-sorted, next-lowest}
 use Rattle.sides.specs.Search.{lower, lowest, sideEnds, sideOf}
@@ -35,16 +34,11 @@ fromSlot left v above nodes n l i = lowest above 0 (lines (sideEnds left v) (kee
 
 -- a turn of the loop, from slot i to the one before
 module _ (left : Bool) (v : Handle) (above : ℕ) (nodes : List Node) (n : ℕ) (l : List ℕ) (i best : ℕ) (low : 0 < i) (high : i ≤ n) (e : best ≡ fromSlot left v above nodes n l i) where
-  step : drop (i - 1) (linksOf n l) ≡ linkAt l (i - 1) ∷ drop i (linksOf n l)
-  step =
-      let q : i - 1 + 1 ≡ i = omega arith in
-      left-link n (i - 1) l (omega arith) ∙ ap (λ (k : ℕ). linkAt l (i - 1) ∷ drop k (linksOf n l)) q
-
   pub turn-live : liveLink nodes (linkAt l (i - 1)) ≡ true → lowest above best (sideEnds left v (linkAt l (i - 1))) ≡ fromSlot left v above nodes n l (i - 1)
-  turn-live t = rw (e, step, t) (sym (lowest-append above 0 (sideEnds left v (linkAt l (i - 1))) (lines (sideEnds left v) (keep (liveLink nodes) (drop i (linksOf n l))))))
+  turn-live t = rw (e, back-link n i l low high, t) (sym (lowest-append above 0 (sideEnds left v (linkAt l (i - 1))) (lines (sideEnds left v) (keep (liveLink nodes) (drop i (linksOf n l))))))
 
   pub turn-dead : liveLink nodes (linkAt l (i - 1)) ≡ false → best ≡ fromSlot left v above nodes n l (i - 1)
-  turn-dead t = rw (step, t) e
+  turn-dead t = rw (back-link n i l low high, t) e
 
   pub turn-same : lowest above best (sideEnds left v (linkAt l (i - 1))) ≡ best → best ≡ fromSlot left v above nodes n l (i - 1)
   turn-same s = by (liveLink nodes (linkAt l (i - 1))) refl

@@ -1,13 +1,21 @@
 -- The fields of the i-th node and link, as the code reads and stores them.
-use Prim.Native.Nat.{ℕ, _+_, _*_, _<_}
-use mathlib.Core.Path.{_≡_, ap, _∙_}
+use Prim.Native.Nat.{ℕ, _+_, _*_, _<_, _-_, _≤_}
+use mathlib.Core.Path.{_≡_, ap, _∙_, sym}
 use mathlib.Core.List.{List, _∷_}
 use native.Mathlib.Nat.{add-zero}
 use lib.ListN.{drop, getD}
 use lib.Seq.{getD-drop}
-use Rattle.kit.proofs.Laws.{left-cons, decode-at}
+use Rattle.kit.proofs.Laws.{left-cons, decode-at, length-decode}
 use Rattle.handle.specs.Edge.{edge}
 use Rattle.store.specs.Graph.{Node, Link, node, link, handle, nodeLayout, linkLayout, nodesOf, linksOf, unpackNode, unpackLink}
+use mathlib.Core.Bool.{true}
+use native.Mathlib.Omega.{arith}
+use borrow.Author.Tests.{leb-true}
+use lib.Dec.{leb}
+use Rattle.kit.specs.Loops.{all}
+use Rattle.kit.proofs.Bools.{and-true-r}
+use Rattle.kit.proofs.Meaning.{all-at}
+use Rattle.handle.specs.Handle.{isId, maxId}
 
 -- the i-th record, read where the code reads it
 abbrev pub nodeAt : List ℕ → ℕ → Node
@@ -36,3 +44,21 @@ module _ (n i : ℕ) (l : List ℕ) (h : i < n) where
 
   pub link-is : (d : Link) → getD (linksOf n l) i d ≡ linkAt l i
   link-is d = decode-at linkLayout n i l d h ∙ link-at l i
+
+-- the same in a loop from the last record to the first
+module _ (n i : ℕ) (l : List ℕ) (low : 0 < i) (high : i ≤ n) where
+  before : i - 1 + 1 ≡ i
+  before = omega arith
+
+  pub back-node : drop (i - 1) (nodesOf n l) ≡ nodeAt l (i - 1) ∷ drop i (nodesOf n l)
+  back-node = left-node n (i - 1) l (omega arith) ∙ ap (λ (k : ℕ). nodeAt l (i - 1) ∷ drop k (nodesOf n l)) before
+
+  pub back-link : drop (i - 1) (linksOf n l) ≡ linkAt l (i - 1) ∷ drop i (linksOf n l)
+  back-link = left-link n (i - 1) l (omega arith) ∙ ap (λ (k : ℕ). linkAt l (i - 1) ∷ drop k (linksOf n l)) before
+
+-- an id in range, where each is
+pub id-high : (n i : ℕ) (l : List ℕ) → all (λ r. isId (r .id)) (nodesOf n l) ≡ true → i < n → getD l (4 * i) 0 ≤ maxId
+id-high n i l t h =
+    let r = nodeAt l i in
+    let e : isId (r .id) ≡ true = sym (ap (λ (x : Node). isId (x .id)) (node-is n i l h r)) ∙ all-at (λ (x : Node). isId (x .id)) (nodesOf n l) t i (omega (arith, length-decode nodeLayout n l)) r in
+    leb-true (r .id) maxId (and-true-r (leb 1 (r .id)) (leb (r .id) maxId) e)

@@ -1,5 +1,5 @@
 -- Live links in written order: the search in no order, and going along them from one to the next.
-use Prim.Native.Nat.{ℕ, _+_, _-_, _≤_, _<_}
+use Prim.Native.Nat.{ℕ, _-_, _≤_, _<_}
 use mathlib.Core.Path.{_≡_, refl, sym, ap, _∙_}
 use mathlib.Core.Bool.{Bool, true, false, cond, _&&_, _||_}
 use mathlib.Core.List.{List, [], _∷_, _++_, List·Memᴰ, List·Memᴰ·head, List·Memᴰ·tail}
@@ -15,9 +15,9 @@ use Rattle.handle.specs.declared.Edge.{Edge}
 use Rattle.handle.specs.Handle.{idOf}
 use Rattle.handle.specs.Edge.{edgeBefore, sameEnds}
 use Rattle.handle.proofs.Edges.{says-before, before-irrefl, before-trans}
-use Rattle.store.specs.Graph.{Node, Link, Graph, link, ends, linksOf}
+use Rattle.store.specs.Graph.{Node, Link, link, ends, linksOf}
 use Rattle.store.specs.Views.{liveNode, liveLink}
-use Rattle.store.proofs.Fields.{linkAt, left-link}
+use Rattle.store.proofs.Fields.{linkAt, back-link}
 use Rattle.formed.specs.WellFormed.{linksOnce}
 use Rattle.writing.specs.GraphText.{linkLine}
 use Rattle.store.specs.Order.{insertLink, writtenOrder}
@@ -88,13 +88,8 @@ firstFrom e nodes n l i = nextAfter e (writtenOrder (keep (liveLink nodes) (drop
 
 -- a turn of the loop, from slot i to the one before
 module _ (e : Edge) (nodes : List Node) (n : ℕ) (l : List ℕ) (none : liveNode 0 nodes ≡ false) (once : linksOnce (linksOf n l) ≡ true) (i : ℕ) (best : Edge) (low : 0 < i) (high : i ≤ n) (q : best ≡ firstFrom e nodes n l i) where
-  step : drop (i - 1) (linksOf n l) ≡ linkAt l (i - 1) ∷ drop i (linksOf n l)
-  step =
-      let p : i - 1 + 1 ≡ i = omega arith in
-      left-link n (i - 1) l (omega arith) ∙ ap (λ (k : ℕ). linkAt l (i - 1) ∷ drop k (linksOf n l)) p
-
   turn : firstFrom e nodes n l (i - 1) ≡ cond (liveLink nodes (linkAt l (i - 1))) (sooner e (ends (linkAt l (i - 1))) best) best
-  turn = rw (step, q) (by (liveLink nodes (linkAt l (i - 1))))
+  turn = rw (back-link n i l low high, q) (by (liveLink nodes (linkAt l (i - 1))))
     where
       by : (b : Bool) → nextAfter e (writtenOrder (cond b (linkAt l (i - 1) ∷ keep (liveLink nodes) (drop i (linksOf n l))) (keep (liveLink nodes) (drop i (linksOf n l))))) ≡ cond b (sooner e (ends (linkAt l (i - 1))) (firstFrom e nodes n l i)) (firstFrom e nodes n l i)
       by true = insert-next e (linkAt l (i - 1)) (live-written nodes (drop i (linksOf n l)) (distinct-drop (λ r s. sameEnds (ends r) (ends s)) i (linksOf n l) once)) (live-started nodes (drop i (linksOf n l)) none)

@@ -1,26 +1,24 @@
 -- Live nodes by rising id: the search in no order, and who is found.
-use Prim.Native.Nat.{ℕ, _+_, _-_, _*_, _≤_, _<_}
+use Prim.Native.Nat.{ℕ, _-_, _≤_, _<_}
 use mathlib.Core.Path.{_≡_, refl, sym, ap, _∙_}
 use mathlib.Core.Bool.{true, false}
-use mathlib.Core.List.{List, _∷_, map, List·Memᴰ, List·Memᴰ·head, Memᴰ·of-map}
+use mathlib.Core.List.{List, map, List·Memᴰ, List·Memᴰ·head, Memᴰ·of-map}
 use native.Mathlib.Omega.{arith}
-use borrow.Author.Tests.{leb-true, le-leb}
+use borrow.Author.Tests.{leb-true}
 use lib.Dec.{leb, ltb}
-use lib.ListN.{length, take, drop, getD}
+use lib.ListN.{take, drop}
 use Rattle.kit.specs.Loops.{all, keep}
-use Rattle.kit.proofs.Bools.{and-true-l, and-true-r, and-both}
-use Rattle.kit.proofs.Laws.{length-decode}
-use Rattle.kit.proofs.Meaning.{all-at, all-mem, all-of}
+use Rattle.kit.proofs.Bools.{and-true-l, and-true-r}
+use Rattle.kit.proofs.Meaning.{all-mem}
 use Rattle.kit.proofs.Members.{of-keep}
 use Rattle.handle.specs.declared.Handle.{Handle}
 use Rattle.handle.specs.Handle.{maxId, isId, pack, idOf, dirOf}
 use Rattle.handle.proofs.Handles.{id-pack, dir-pack}
 use Rattle.store.specs.declared.Counts.{Counts}
-use Rattle.store.specs.Graph.{Node, handle, nodeLayout, nodesOf}
+use Rattle.store.specs.Graph.{Node, handle, nodesOf}
 use Rattle.store.specs.Views.{unmarkedNode}
-use Rattle.store.proofs.Fields.{nodeAt, left-node, node-is}
-use Rattle.formed.specs.WellFormed.{goodNode}
-use Rattle.formed.proofs.Says.{node-says}
+use Rattle.store.proofs.Fields.{nodeAt, back-node}
+use Rattle.formed.proofs.Says.{good-ids}
 use Rattle.sides.specs.Sides.{rising, nextAbove}
 use Rattle.sides.specs.Search.{lower, lowest}
 use Rattle.sides.proofs.Rising.{Sorted, rising-sorted, of-rising, next-lowest, restAbove, rest-all, Step}
@@ -38,16 +36,11 @@ fromSlot above n l i = lowest above 0 (forwards (keep unmarkedNode (drop i (node
 
 -- a turn of the loop, from slot i to the one before
 module _ (above n : ℕ) (l : List ℕ) (i best : ℕ) (low : 0 < i) (high : i ≤ n) (e : best ≡ fromSlot above n l i) where
-  step : drop (i - 1) (nodesOf n l) ≡ nodeAt l (i - 1) ∷ drop i (nodesOf n l)
-  step =
-      let q : i - 1 + 1 ≡ i = omega arith in
-      left-node n (i - 1) l (omega arith) ∙ ap (λ (k : ℕ). nodeAt l (i - 1) ∷ drop k (nodesOf n l)) q
-
   pub turn-live : unmarkedNode (nodeAt l (i - 1)) ≡ true → lower above (pack (nodeAt l (i - 1) .id) 0 .packed) best ≡ fromSlot above n l (i - 1)
-  turn-live t = rw (e, step, t)
+  turn-live t = rw (e, back-node n i l low high, t)
 
   pub turn-dead : unmarkedNode (nodeAt l (i - 1)) ≡ false → best ≡ fromSlot above n l (i - 1)
-  turn-dead t = rw (step, t) e
+  turn-dead t = rw (back-node n i l low high, t) e
 
 pub next-found : (above n : ℕ) (l : List ℕ) → fromSlot above n l 0 ≡ nextAbove above (liveSegments (nodesOf n l))
 next-found above n l = sym (next-lowest above (forwards (keep unmarkedNode (nodesOf n l))))
@@ -55,18 +48,8 @@ next-found above n l = sym (next-lowest above (forwards (keep unmarkedNode (node
 abbrev pub idsGood : List Node → Type 0
 idsGood rs = all (λ r. isId (r .id)) rs ≡ true
 
--- an id in range, where each is
-pub id-high : (n i : ℕ) (l : List ℕ) → idsGood (nodesOf n l) → i < n → getD l (4 * i) 0 ≤ maxId
-id-high n i l t h =
-    let r = nodeAt l i in
-    let e : isId (r .id) ≡ true = sym (ap (λ (x : Node). isId (x .id)) (node-is n i l h r)) ∙ all-at (λ (x : Node). isId (x .id)) (nodesOf n l) t i (omega (arith, length-decode nodeLayout n l)) r in
-    leb-true (r .id) maxId (and-true-r (leb 1 (r .id)) (leb (r .id) maxId) e)
-
 pub readable-ids : (nodes letters : List ℕ) (c : Counts) → Readable nodes letters c → idsGood (nodesOf (c .nodes) nodes)
-readable-ids nodes letters c ok =
-    all-of (λ (r : Node). isId (r .id)) (nodesOf (c .nodes) nodes) (λ r m.
-    let s = node-says (take (c .letters) letters) r (all-mem (goodNode (take (c .letters) letters)) (ok .nodes-good) m) in
-    and-both _ _ (le-leb 1 (r .id) (s .id-low)) (le-leb (r .id) maxId (s .id-high)))
+readable-ids nodes letters c ok = good-ids (take (c .letters) letters) (nodesOf (c .nodes) nodes) (ok .nodes-good)
 
 -- who is written: an unmarked node, forward
 pub record Segment (rs : List Node) (u : Handle) : Type 0 where

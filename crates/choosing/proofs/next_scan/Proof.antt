@@ -7,7 +7,8 @@ use Rattle.store.specs.Graph.{nodeLayout}
 use borrow.Author.Needs.{needs}
 use Rattle.choosing.proofs.next_scan.Statement.{statement}
 use Rattle.choosing.proofs.next_scan.Tie as tie
-use Rattle.choosing.proofs.Along.{fromSlot, turn-live, turn-dead, next-found, id-high}
+use Rattle.choosing.proofs.Along.{fromSlot, turn-live, turn-dead, next-found}
+use Rattle.store.proofs.Fields.{id-high}
 
 abbrev Inv-loop : tie.InvT-loop
 Inv-loop nodes count above best₀ i₀ best i = (i ≤ count) × (best ≡ fromSlot above count nodes i)

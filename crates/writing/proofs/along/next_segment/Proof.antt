@@ -7,9 +7,10 @@ use Rattle.kit.proofs.Laws.{left-none}
 use Rattle.handle.specs.declared.Handle.{Handle}
 use Rattle.store.specs.Graph.{nodeLayout}
 use Rattle.sides.specs.Search.{lower}
-use Rattle.writing.proofs.Segments.{fromSlot, turn-live, turn-dead, next-found, id-high}
+use Rattle.writing.proofs.Segments.{fromSlot, turn-live, turn-dead, next-found}
 use Rattle.writing.proofs.along.next_segment.Statement.{statement}
 use Rattle.writing.proofs.along.next_segment.Tie as tie
+use Rattle.store.proofs.Fields.{id-high}
 
 abbrev Inv-loop : tie.InvT-loop
 Inv-loop nodes count above best₀ i₀ best i = (i ≤ count) × (best ≡ fromSlot above count nodes i)
