@@ -42,7 +42,14 @@ fn fault(number: u64, rule: usize, step: usize) -> Verdict
 }
 
 // 2: 21, 22, 23 or 0 of the step at place `at`, which is step j of its walk.
-fn step_fault(nodes: &[u64], links: &[u64], d: Counts, steps: &[u64], at: usize, j: usize) -> u64
+pub fn step_fault(
+    nodes: &[u64],
+    links: &[u64],
+    d: Counts,
+    steps: &[u64],
+    at: usize,
+    j: usize,
+) -> u64
     requires { ⌜ (4 * d .nodes ≤ length (now nodes)) × (3 * d .links ≤ length (now links)) ⌝ }
     requires { ⌜ (2 * at + 1 < length (now steps)) × (j ≤ at) ⌝ }
     ensures { λ r. ⌜ r ≡ stepFault (graphOf (now (nodes .entry)) [] (now (links .entry)) d) 0 0 (cond (eqb j 0) [] (step (getD (now (steps .entry)) (2 * (at - 1)) 0) (getD (now (steps .entry)) (2 * (at - 1) + 1) 0) ∷ [])) (step (getD (now (steps .entry)) (2 * at) 0) (getD (now (steps .entry)) (2 * at + 1) 0)) .number ⌝ }
