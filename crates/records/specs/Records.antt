@@ -1,13 +1,18 @@
 -- Steps of a table as records of their own, and the number of one of them: 01 "The eight conditions", 2.
 use Prim.Native.Nat.{ℕ}
+use mathlib.Core.Path.{_≡_, sym, _∙_}
 use mathlib.Core.Bool.{Bool, cond, _&&_}
-use mathlib.Core.List.{List, [], _∷_}
+use mathlib.Core.List.{List, [], _∷_, map}
 use lib.Dec.{eqb, leb}
 use lib.ListN.{getD}
+use Rattle.kit.specs.Loops.{all}
 use Rattle.handle.specs.Handle.{isId, pack}
-use Rattle.store.specs.Graph.{Graph}
+use Rattle.store.specs.declared.Counts.{Counts}
+use Rattle.store.specs.Graph.{Graph, nodesOf, graphOf}
+use Rattle.formed.specs.WellFormed.{wellFormed, idsOnce}
 use Rattle.events.specs.Events as events
-use Rattle.scanning.specs.Rules.{stepFault}
+use Rattle.scanning.specs.declared.Verdict.{Verdict}
+use Rattle.scanning.specs.Rules.{verdict, orThen, unless, stepFault, stepsFault}
 use Rattle.records.specs.declared.Step.{Step}
 
 abbrev pub recordOf : ℕ → ℕ → ℕ → Step
@@ -30,3 +35,25 @@ fieldsFault g first b s =
 abbrev pub recordFault : Graph → List Step → ℕ → ℕ → ℕ
 recordFault g rs before at =
     fieldsFault g (eqb before at) (getD rs before (recordOf 0 0 0)) (getD rs at (recordOf 0 0 0))
+
+-- 13 or 5 of the graph
+abbrev pub graphFault : List ℕ → List ℕ → List ℕ → Counts → Verdict
+graphFault nodes letters links d =
+    orThen (unless (wellFormed nodes letters links d) 13 0 0) (unless (idsOnce (nodesOf (d .nodes) nodes)) 5 0 0)
+
+-- a step's number n, after what was found before it: 13 goes before all else
+abbrev pub nextFault : Verdict → ℕ → ℕ → Verdict
+nextFault found n at =
+    cond (eqb n 13) (verdict 13 0 0) (cond (eqb (found .number) 0) (cond (eqb n 0) found (verdict n 0 at)) found)
+
+-- 13 of any record, then what was found before, then 21, 22, 23 by step
+abbrev pub scanned : Graph → Verdict → List Step → Verdict
+scanned g found rs =
+    orThen (unless (all inRange rs) 13 0 0) (orThen found (stepsFault g 0 0 [] (map stepOf rs)))
+
+-- 13 of the graph or of any record, then 5, then 21, 22, 23 by step; the second place is the step's
+abbrev pub stepsOutcome : List ℕ → List ℕ → List ℕ → Counts → List Step → Verdict
+stepsOutcome nodes letters links d rs =
+    orThen (unless (wellFormed nodes letters links d && all inRange rs) 13 0 0)
+    (orThen (unless (idsOnce (nodesOf (d .nodes) nodes)) 5 0 0)
+    (stepsFault (graphOf nodes letters links d) 0 0 [] (map stepOf rs)))
