@@ -5,10 +5,10 @@ use mathlib.Core.Bool.{Bool, true, false, cond, not, _&&_}
 use mathlib.Core.List.{List, [], _∷_, map}
 use native.Mathlib.Omega.{arith}
 use borrow.Author.Tests.{eq-eqb, ne-eqb, eqb-true, not-true, not-false}
-use lib.Dec.{eqb}
+use lib.Dec.{eqb, leb}
 use lib.ListN.{length, drop, getD, drop-of-length-le}
 use Rattle.kit.specs.Loops.{all}
-use Rattle.kit.proofs.Bools.{never}
+use Rattle.kit.proofs.Bools.{never, and-true-l}
 use Rattle.kit.proofs.Steps.{left-at}
 use Rattle.store.specs.declared.Counts.{Counts}
 use Rattle.store.specs.Graph.{Graph, nodesOf, graphOf}
@@ -19,7 +19,7 @@ use Rattle.scanning.specs.declared.Verdict.{Verdict}
 use Rattle.scanning.specs.Rules.{verdict, orThen, unless, stepLives, lengthTrue, follows, stepFault, stepsFault}
 use Rattle.scanning.proofs.RuleTurns.{placed, step-placed}
 use Rattle.records.specs.declared.Step.{Step}
-use Rattle.records.specs.Records.{recordOf, stepOf, inRange, recordFault, graphFault, nextFault, scanned, stepsOutcome}
+use Rattle.records.specs.Records.{recordOf, stepOf, inRange, recordFault, inputFormed, inputFault, nextFault, scanned, stepsOutcome}
 
 -- what stands after a step, by its number
 module _ (found : Verdict) (n at : ℕ) where
@@ -140,35 +140,42 @@ module _ (g : Graph) (rs : List Step) (start : Verdict) where
             left = sym here-left ∙ m .left;
           }
 
--- the graph's own number
-module _ (nodes letters links : List ℕ) (d : Counts) where
-  pub not-formed : wellFormed nodes letters links d ≡ false → verdict 13 0 0 ≡ graphFault nodes letters links d
+-- whether a first number is 13
+is-13 : (a b : Bool) → eqb (orThen (unless a 13 0 0) (unless b 5 0 0) .number) 13 ≡ not a
+is-13 true true = refl
+is-13 true false = refl
+is-13 false b = refl
+
+-- the number of what is handed in, before any record is looked at
+module _ (nodes letters links : List ℕ) (d : Counts) (count : ℕ) where
+  abbrev once : Bool
+  once = idsOnce (nodesOf (d .nodes) nodes)
+
+  pub not-formed : inputFormed nodes letters links d count ≡ false → verdict 13 0 0 ≡ inputFault nodes letters links d count
   not-formed e = rw e
 
-  module _ (t : wellFormed nodes letters links d ≡ true) where
-    pub id-twice : idsOnce (nodesOf (d .nodes) nodes) ≡ false → verdict 5 0 0 ≡ graphFault nodes letters links d
+  module _ (t : inputFormed nodes letters links d count ≡ true) where
+    pub id-twice : once ≡ false → verdict 5 0 0 ≡ inputFault nodes letters links d count
     id-twice e = rw (t, e)
 
-    pub all-once : idsOnce (nodesOf (d .nodes) nodes) ≡ true → verdict 0 0 0 ≡ graphFault nodes letters links d
+    pub all-once : once ≡ true → verdict 0 0 0 ≡ inputFault nodes letters links d count
     all-once e = rw (t, e)
 
-  pub no-places : (graphFault nodes letters links d .first ≡ 0) × (graphFault nodes letters links d .second ≡ 0)
-  no-places = by (wellFormed nodes letters links d) (idsOnce (nodesOf (d .nodes) nodes))
+    pub rooms : (4 * d .nodes ≤ length nodes) × (3 * d .links ≤ length links)
+    rooms = let r = formed-room nodes letters links d (and-true-l (wellFormed nodes letters links d) (leb count 262144) t) in (r .node-room, r .link-room)
+
+  pub no-places : (inputFault nodes letters links d count .first ≡ 0) × (inputFault nodes letters links d count .second ≡ 0)
+  no-places = by (inputFormed nodes letters links d count) once
     where
       by : (a b : Bool) → let v = orThen (unless a 13 0 0) (unless b 5 0 0) in (v .first ≡ 0) × (v .second ≡ 0)
       by true true = (refl, refl)
       by true false = (refl, refl)
       by false b = (refl, refl)
 
-  -- whether it is 13
-  is-13 : (a b : Bool) → eqb (orThen (unless a 13 0 0) (unless b 5 0 0) .number) 13 ≡ not a
-  is-13 true true = refl
-  is-13 true false = refl
-  is-13 false b = refl
+  pub formed-else : eqb (inputFault nodes letters links d count .number) 13 ≡ false → inputFormed nodes letters links d count ≡ true
+  formed-else e = not-false _ (sym (is-13 (inputFormed nodes letters links d count) once) ∙ e)
 
-  pub formed-else : eqb (graphFault nodes letters links d .number) 13 ≡ false → wellFormed nodes letters links d ≡ true
-  formed-else e = not-false _ (sym (is-13 (wellFormed nodes letters links d) (idsOnce (nodesOf (d .nodes) nodes))) ∙ e)
-
+module _ (nodes letters links : List ℕ) (d : Counts) where
   -- a step's conditions read no letters
   steps-text : (at : ℕ) (before ss : List events.Step) → stepsFault (graphOf nodes [] links d) 0 at before ss ≡ stepsFault (graphOf nodes letters links d) 0 at before ss
   steps-text at before [] = refl
@@ -176,12 +183,17 @@ module _ (nodes letters links : List ℕ) (d : Counts) where
   steps-text at (b ∷ bs) (s ∷ ss) = ap (orThen (stepFault (graphOf nodes letters links d) 0 at (b ∷ bs) s)) (steps-text (at + 1) (s ∷ []) ss)
 
   module _ (rs : List Step) where
-    pub ends-13 : eqb (graphFault nodes letters links d .number) 13 ≡ true → graphFault nodes letters links d ≡ stepsOutcome nodes letters links d rs
+    abbrev given : Verdict
+    given = inputFault nodes letters links d (length rs)
+
+    pub ends-13 : eqb (given .number) 13 ≡ true → given ≡ stepsOutcome nodes letters links d rs
+    unfolding stepsOutcome
     ends-13 e =
-        let f : wellFormed nodes letters links d ≡ false = not-true _ (sym (is-13 (wellFormed nodes letters links d) (idsOnce (nodesOf (d .nodes) nodes))) ∙ e) in
+        let f : inputFormed nodes letters links d (length rs) ≡ false = not-true _ (sym (is-13 (inputFormed nodes letters links d (length rs)) (idsOnce (nodesOf (d .nodes) nodes))) ∙ e) in
         rw f
 
-    pub goes-on : wellFormed nodes letters links d ≡ true → scanned (graphOf nodes [] links d) (graphFault nodes letters links d) rs ≡ stepsOutcome nodes letters links d rs
+    pub goes-on : inputFormed nodes letters links d (length rs) ≡ true → scanned (graphOf nodes [] links d) given rs ≡ stepsOutcome nodes letters links d rs
+    unfolding stepsOutcome
     goes-on t =
-        ap (λ (w : Verdict). orThen (unless (all inRange rs) 13 0 0) (orThen (graphFault nodes letters links d) w)) (steps-text 0 [] (map stepOf rs))
+        ap (λ (w : Verdict). orThen (unless (all inRange rs) 13 0 0) (orThen given w)) (steps-text 0 [] (map stepOf rs))
         ∙ rw t

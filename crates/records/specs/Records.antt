@@ -4,7 +4,7 @@ use mathlib.Core.Path.{_≡_, sym, _∙_}
 use mathlib.Core.Bool.{Bool, cond, _&&_}
 use mathlib.Core.List.{List, [], _∷_, map}
 use lib.Dec.{eqb, leb}
-use lib.ListN.{getD}
+use lib.ListN.{length, getD}
 use Rattle.kit.specs.Loops.{all}
 use Rattle.handle.specs.Handle.{isId, pack}
 use Rattle.store.specs.declared.Counts.{Counts}
@@ -36,10 +36,14 @@ abbrev pub recordFault : Graph → List Step → ℕ → ℕ → ℕ
 recordFault g rs before at =
     fieldsFault g (eqb before at) (getD rs before (recordOf 0 0 0)) (getD rs at (recordOf 0 0 0))
 
--- 13 or 5 of the graph
-abbrev pub graphFault : List ℕ → List ℕ → List ℕ → Counts → Verdict
-graphFault nodes letters links d =
-    orThen (unless (wellFormed nodes letters links d) 13 0 0) (unless (idsOnce (nodesOf (d .nodes) nodes)) 5 0 0)
+-- a well formed graph, and no more steps than 01's limit
+abbrev pub inputFormed : List ℕ → List ℕ → List ℕ → Counts → ℕ → Bool
+inputFormed nodes letters links d count = wellFormed nodes letters links d && leb count 262144
+
+-- 13 or 5, before any record is looked at
+abbrev pub inputFault : List ℕ → List ℕ → List ℕ → Counts → ℕ → Verdict
+inputFault nodes letters links d count =
+    orThen (unless (inputFormed nodes letters links d count) 13 0 0) (unless (idsOnce (nodesOf (d .nodes) nodes)) 5 0 0)
 
 -- a step's number n, after what was found before it: 13 goes before all else
 abbrev pub nextFault : Verdict → ℕ → ℕ → Verdict
@@ -51,9 +55,13 @@ abbrev pub scanned : Graph → Verdict → List Step → Verdict
 scanned g found rs =
     orThen (unless (all inRange rs) 13 0 0) (orThen found (stepsFault g 0 0 [] (map stepOf rs)))
 
--- 13 of the graph or of any record, then 5, then 21, 22, 23 by step; the second place is the step's
-abbrev pub stepsOutcome : List ℕ → List ℕ → List ℕ → Counts → List Step → Verdict
+-- 13 of the graph, the count or any record, then 5, then 21, 22, 23 by step; the second place is the step's
+unfoldable pub stepsOutcome : List ℕ → List ℕ → List ℕ → Counts → List Step → Verdict
 stepsOutcome nodes letters links d rs =
-    orThen (unless (wellFormed nodes letters links d && all inRange rs) 13 0 0)
+    orThen (unless (inputFormed nodes letters links d (length rs) && all inRange rs) 13 0 0)
     (orThen (unless (idsOnce (nodesOf (d .nodes) nodes)) 5 0 0)
     (stepsFault (graphOf nodes letters links d) 0 0 [] (map stepOf rs)))
+
+-- two outcomes that the statement allows are equal
+pub one-outcome : (nodes letters links : List ℕ) (d : Counts) (rs : List Step) (v w : Verdict) → v ≡ stepsOutcome nodes letters links d rs → w ≡ stepsOutcome nodes letters links d rs → v ≡ w
+one-outcome nodes letters links d rs v w e f = e ∙ sym f

@@ -9,7 +9,7 @@ ghost use lib.Dec.{eqb};
 ghost use lib.ListN.{length};
 ghost use Rattle.store.specs.Graph.{graphOf};
 ghost use Rattle.scanning.specs.Rules.{verdict};
-ghost use Rattle.records.specs.Records.{recordOf, inRange, fieldsFault, recordFault, graphFault, nextFault, scanned, stepsOutcome};
+ghost use Rattle.records.specs.Records.{recordOf, inRange, fieldsFault, recordFault, inputFault, nextFault, scanned, stepsOutcome};
 
 // A step of a table as a record of its own.
 #[repr(C)]
@@ -103,11 +103,14 @@ fn fault(number: u64, step: usize) -> Verdict
     }
 }
 
-// 13 or 5 of the graph.
-fn graph_fault(nodes: &[u64], text: &[u8], links: &[u64], d: Counts) -> Verdict
-    ensures { λ r. ⌜ r ≡ graphFault (now (nodes .entry)) (now (text .entry)) (now (links .entry)) d ⌝ }
+// 13 or 5 of the graph, or 13 of so many steps.
+fn input_fault(nodes: &[u64], text: &[u8], links: &[u64], d: Counts, count: usize) -> Verdict
+    ensures { λ r. ⌜ r ≡ inputFault (now (nodes .entry)) (now (text .entry)) (now (links .entry)) d count ⌝ }
 {
     if !formed::well_formed(nodes, text, links, d) {
+        return fault(13, 0);
+    }
+    if 262144 < count {
         return fault(13, 0);
     }
     if !formed::ids_once(nodes, d.nodes) {
@@ -153,7 +156,7 @@ fn scan_steps(nodes: &[u64], links: &[u64], d: Counts, steps: &[Step], start: Ve
 pub fn check_steps(nodes: &[u64], text: &[u8], links: &[u64], d: Counts, steps: &[Step]) -> Verdict
     ensures { λ r. ⌜ r ≡ stepsOutcome (now (nodes .entry)) (now (text .entry)) (now (links .entry)) d (now (steps .entry)) ⌝ }
 {
-    let start = graph_fault(nodes, text, links, d);
+    let start = input_fault(nodes, text, links, d, steps.len());
     if start.number == 13 {
         return start;
     }
