@@ -1,8 +1,8 @@
 -- A record out of range is 13; in range its number is that of the flat step.
 use Prim.Native.Nat.{ℕ, _≤_}
-use mathlib.Core.Path.{_≡_, sym, ap₂, _∙_}
-use mathlib.Core.Bool.{Bool, true, false, cond, _&&_}
-use mathlib.Core.List.{List, [], _∷_}
+use mathlib.Core.Path.{_≡_, ap₂, _∙_}
+use mathlib.Core.Bool.{Bool, true, false, cond}
+use mathlib.Core.List.{[], _∷_}
 use borrow.Author.Tests.{leb-true}
 use lib.Dec.{leb}
 use Rattle.kit.proofs.Bools.{and-true-l, and-true-r}
@@ -12,7 +12,7 @@ use Rattle.store.specs.Graph.{Graph}
 use Rattle.events.specs.Events as events
 use Rattle.scanning.specs.Rules.{stepFault}
 use Rattle.records.specs.declared.Step.{Step}
-use Rattle.records.specs.Records.{stepOf, inRange, fieldsFault}
+use Rattle.records.specs.Records.{inRange, fieldsFault}
 
 -- what `pack` asks
 module _ (r : Step) (t : inRange r ≡ true) where
