@@ -1,4 +1,4 @@
--- Steps of a table as records of their own, and the number of one of them: 01 "The eight conditions", 2.
+-- Steps of a table as records of their own, the number of one of them and of a walk: 01 "The eight conditions", 2.
 use Prim.Native.Nat.{ℕ}
 use mathlib.Core.Path.{_≡_, sym, _∙_}
 use mathlib.Core.Bool.{Bool, cond, _&&_}

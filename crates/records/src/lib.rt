@@ -103,7 +103,7 @@ fn fault(number: u64, step: usize) -> Verdict
     }
 }
 
-// 13 or 5 of the graph, or 13 of so many steps.
+// 13 or 5 of the graph; 13 of more steps than the limit.
 fn input_fault(nodes: &[u64], text: &[u8], links: &[u64], d: Counts, count: usize) -> Verdict
     ensures { λ r. ⌜ r ≡ inputFault (now (nodes .entry)) (now (text .entry)) (now (links .entry)) d count ⌝ }
 {
