@@ -17,7 +17,7 @@ ghost use Rattle.affix.specs.Reading.{Readable};
 ghost use Rattle.choosing.specs.Scan.{scanOrder, isProtected, mustCollapse, nextGroup};
 ghost use Rattle.choosing.specs.Search.{tried, firstGroup, Front};
 
-// The same with both directions of a node.
+// The lower of both directions of a node, where they are above `above`, and the best so far.
 fn lower_of_both(id: u64, above: u64, best: u64) -> u64
     requires { ⌜ id ≤ maxId ⌝ }
     ensures { λ r. ⌜ r ≡ lowest above best (pack id 0 ∷ pack id 1 ∷ []) ⌝ }

@@ -3,19 +3,19 @@
 use Prim.Native.Nat.{ℕ, suc, _+_, _≤_, _<_}
 use mathlib.Core.Path.{_≡_, refl, sym, ap, ap₂, _∙_, subst}
 use mathlib.Core.Logic.{⊎-elim}
-use mathlib.Core.Bool.{Bool, true, false, cond, _||_}
-use mathlib.Core.List.{List, [], _∷_, map, append-nil, List·Memᴰ, List·Memᴰ·head, List·Memᴰ·tail}
+use mathlib.Core.Bool.{Bool, true, false, cond}
+use mathlib.Core.List.{List, [], _∷_, map, append-nil}
 use native.Mathlib.Nat.{not-suc-le-zero}
 use native.Mathlib.Omega.{arith}
 use borrow.Author.Tests.{eqb-true}
 use lib.Dec.{eqb}
 use lib.ListN.{length, drop, length-drop}
 use lib.Seq.{length-take-le}
-use Rattle.kit.specs.Loops.{all, any, firstOr}
+use Rattle.kit.specs.Loops.{all}
 use Rattle.kit.specs.declared.Found.{Found}
 use Rattle.kit.specs.declared.Found.the-variants.{At, Nothing}
-use Rattle.kit.proofs.Bools.{tests, never, and-true-l, and-true-r, and-both, or-cases}
-use Rattle.kit.proofs.Meaning.{all-mem, any-some, lines-append}
+use Rattle.kit.proofs.Bools.{tests, and-true-l, and-true-r, and-both, or-cases}
+use Rattle.kit.proofs.Meaning.{all-mem, any-some, lines-append, first-some}
 use Rattle.letters.specs.Sequences.{sameSpelling}
 use Rattle.letters.proofs.Sequences.{same-both, same-revComp}
 use Rattle.handle.specs.declared.Handle.{Handle}
@@ -41,15 +41,6 @@ use Rattle.promises.specs.Walks.{Walk, liveWalk, rewritesRightly, Formed
 use Rattle.promises.proofs.Live.{live-join, first-append, last-turn, first-turn, live-turn, says-live}
 use Rattle.promises.proofs.Reading.{spell-letters, walk-letters}
 use Rattle.promises.proofs.Yes.{yes-is-conditions}
-
--- a first element that passes stands in the list
-pub first-of : {A : Type 0} (p : A → Bool) (d : A) (rs : List A) → any p rs ≡ true → List·Memᴰ (firstOr d p rs) rs × (p (firstOr d p rs) ≡ true)
-first-of p d [] t = never (sym t)
-first-of {A} p d (a ∷ rs) t = by (p a) refl t (first-of p d rs)
-  where
-    by : (b : Bool) → p a ≡ b → (b || any p rs) ≡ true → (any p rs ≡ true → List·Memᴰ (firstOr d p rs) rs × (p (firstOr d p rs) ≡ true)) → List·Memᴰ (cond b a (firstOr d p rs)) (a ∷ rs) × (p (cond b a (firstOr d p rs)) ≡ true)
-    by true e q go = (List·Memᴰ·head refl, e)
-    by false e q go = let r = go q in (List·Memᴰ·tail (r .0), r .1)
 
 -- an oriented node is its id's forward one, or the flip of that
 pub either-way : (P : Handle → Type 0) → ((id : ℕ) → P (pack id 0)) → ((h : Handle) → P h → P (flip h)) → (h : Handle) → P h
@@ -115,7 +106,7 @@ module _ (old new : Graph) (t : Rules) where
     image-ruled : (id : ℕ) → stored id (old .nodes) ≡ true → ruled id (lenOf old id) (t .rules) ≡ true → Imaged (pack id 0) (nodesOn (t .steps) (ruleUnder id (lenOf old id) (t .rules)))
     image-ruled id s k =
         let r = ruleUnder id (lenOf old id) (t .rules) in
-        let f = first-of (keyed id (lenOf old id)) (rule 0 0 0 0) (t .rules) k in
+        let f = first-some (keyed id (lenOf old id)) (rule 0 0 0 0) (t .rules) k in
         let e : r .id ≡ id = eqb-true (r .id) id (and-true-l (eqb (r .id) id) (eqb (r .len) (lenOf old id)) (f .1)) in
         let l : r .len ≡ lenOf old id = eqb-true (r .len) (lenOf old id) (and-true-r (eqb (r .id) id) (eqb (r .len) (lenOf old id)) (f .1)) in
         let h = c .rules-hold r (f .0) in
