@@ -6,8 +6,8 @@ use Rattle.kit.proofs.Bools.{and-both}
 use Rattle.formed.specs.WellFormed.{wellFormed}
 use Rattle.records.specs.Records.{inputFormed}
 use Rattle.records.proofs.Scan.{not-formed, id-twice, all-once, rooms}
-use Rattle.records.proofs.input_fault.Statement.{statement}
-use Rattle.records.proofs.input_fault.Tie as tie
+use Rattle.records.proofs.check_steps.input_fault.Statement.{statement}
+use Rattle.records.proofs.check_steps.input_fault.Tie as tie
 
 graph-formed : (c : tie.Else1) → let a = c .before .before .before .before .before .args in wellFormed (a .nodes .now) (a .text .now) (a .links .now) (a .d) ≡ true
 graph-formed c = sym (c .before .well-formed .ensures) ∙ not-false _ (c .if1 .left)

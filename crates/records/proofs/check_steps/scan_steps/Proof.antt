@@ -1,4 +1,4 @@
--- `records::scan_steps` meets its contract: a walk of its MIR, by hand, with its loop. In a turn the thin check gives a number and
+-- `records::check_steps::scan_steps` meets its contract: a walk of its MIR, by hand, with its loop. In a turn the thin check gives a number and
 -- `next_fault` what stands after it; all that the proof knows of the two is that they meet their contracts.
 -- `Scans` (`Scan.antt`) says what holds in a turn.
 use mathlib.Core.Path.{_≡_, refl, ap, _∙_}
@@ -59,14 +59,14 @@ use Rattle.records.proofs.step_fault as thin
 use Rattle.records.proofs.step_fault.Symbol as thin-def
 use Rattle.records.proofs.step_fault.Symbol.{name as #step-fault}
 use Rattle.records.proofs.step_fault.Met as thin-thm
-use Rattle.records.proofs.next_fault as after
-use Rattle.records.proofs.next_fault.Symbol as after-def
-use Rattle.records.proofs.next_fault.Symbol.{name as #next-fault}
-use Rattle.records.proofs.next_fault.Met as after-thm
-use Rattle.records.proofs.scan_steps.Key.{name as #scan-steps}
-use Rattle.records.proofs.scan_steps as me
-use Rattle.records.proofs.scan_steps.Statement as stated
-use Rattle.records.proofs.scan_steps.Code as code
+use Rattle.records.proofs.check_steps.next_fault as after
+use Rattle.records.proofs.check_steps.next_fault.Symbol as after-def
+use Rattle.records.proofs.check_steps.next_fault.Symbol.{name as #next-fault}
+use Rattle.records.proofs.check_steps.next_fault.Met as after-thm
+use Rattle.records.proofs.check_steps.scan_steps.Key.{name as #scan-steps}
+use Rattle.records.proofs.check_steps.scan_steps as me
+use Rattle.records.proofs.check_steps.scan_steps.Statement as stated
+use Rattle.records.proofs.check_steps.scan_steps.Code as code
 
 -- a record's type, and the verdict's
 abbrev R : RattleType
@@ -378,4 +378,4 @@ scan-steps-spec 𝓤 H 𝓜 𝓖 𝓡 =
     (tables 𝓤 H 𝓜 𝓡 code.env .C) (tables 𝓤 H 𝓜 𝓡 code.env .Λ) #scan-steps code.function (code.unfolded 𝓤 H 𝓜 𝓡)
     (meets 𝓤 H (𝓖 .A) (givenOf 𝓤 H 𝓜 𝓖) (𝓜 .mem) (𝓡 .run) (tablesOf 𝓤 H 𝓜 (tables 𝓤 H 𝓜 𝓡 code.env))
     (cited 𝓤 H (Thin 𝓤 H (𝓖 .A) (𝓜 .mem) (𝓡 .run)) 𝓜 𝓡 code.env #step-fault thin-def.routine code.calls-records·step-fault (thin-thm.met 𝓤 H 𝓜 𝓖 𝓡))
-    (cited 𝓤 H (After 𝓤 H (𝓖 .A) (𝓜 .mem) (𝓡 .run)) 𝓜 𝓡 code.env #next-fault after-def.routine code.calls-records·next-fault (after-thm.met 𝓤 H 𝓜 𝓖 𝓡)))
+    (cited 𝓤 H (After 𝓤 H (𝓖 .A) (𝓜 .mem) (𝓡 .run)) 𝓜 𝓡 code.env #next-fault after-def.routine code.calls-records·check-steps·next-fault (after-thm.met 𝓤 H 𝓜 𝓖 𝓡)))

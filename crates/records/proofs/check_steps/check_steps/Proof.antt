@@ -1,4 +1,4 @@
--- `records::check_steps` meets its contract: a walk of its MIR, by hand. `input_fault` tells of the graph and the count, and unless that is 13
+-- `records::check_steps::check_steps` meets its contract: a walk of its MIR, by hand. `input_fault` tells of the graph and the count, and unless that is 13
 -- `scan_steps` of the records; all that the proof knows of the two is that they meet their contracts.
 use mathlib.Core.Path.{_≡_, refl, ap, _∙_}
 use Prim.Native.Nat.{ℕ, _<_, _^_}
@@ -52,18 +52,18 @@ use Rattle.records.specs.Records.{inputFormed, inputFault, scanned, step
 use Rattle.records.specs.declared.Step.{Step}
 use Rattle.records.proofs.Scan.{rooms, no-places, formed-else, ends-13, goes-on}
 use Rattle.records.proofs.Step as T
-use Rattle.records.proofs.input_fault as graph
-use Rattle.records.proofs.input_fault.Symbol as graph-def
-use Rattle.records.proofs.input_fault.Symbol.{name as #input-fault}
-use Rattle.records.proofs.input_fault.Met as graph-thm
-use Rattle.records.proofs.scan_steps as scan
-use Rattle.records.proofs.scan_steps.Symbol as scan-def
-use Rattle.records.proofs.scan_steps.Symbol.{name as #scan-steps}
-use Rattle.records.proofs.scan_steps.Met as scan-thm
-use Rattle.records.proofs.check_steps.Key.{name as #check-steps}
-use Rattle.records.proofs.check_steps as me
-use Rattle.records.proofs.check_steps.Statement as stated
-use Rattle.records.proofs.check_steps.Code as code
+use Rattle.records.proofs.check_steps.input_fault as graph
+use Rattle.records.proofs.check_steps.input_fault.Symbol as graph-def
+use Rattle.records.proofs.check_steps.input_fault.Symbol.{name as #input-fault}
+use Rattle.records.proofs.check_steps.input_fault.Met as graph-thm
+use Rattle.records.proofs.check_steps.scan_steps as scan
+use Rattle.records.proofs.check_steps.scan_steps.Symbol as scan-def
+use Rattle.records.proofs.check_steps.scan_steps.Symbol.{name as #scan-steps}
+use Rattle.records.proofs.check_steps.scan_steps.Met as scan-thm
+use Rattle.records.proofs.check_steps.check_steps.Key.{name as #check-steps}
+use Rattle.records.proofs.check_steps.check_steps as me
+use Rattle.records.proofs.check_steps.check_steps.Statement as stated
+use Rattle.records.proofs.check_steps.check_steps.Code as code
 
 -- a record's type, and the verdict's
 abbrev R : RattleType
@@ -325,5 +325,5 @@ check-steps-spec 𝓤 H 𝓜 𝓖 𝓡 =
     entered 𝓤 H (tripleOf 𝓤 H (𝓖 .A) me.signature (me.spec 𝓤 H (𝓖 .A) (𝓜 .mem) (𝓡 .run)))
     (tables 𝓤 H 𝓜 𝓡 code.env .C) (tables 𝓤 H 𝓜 𝓡 code.env .Λ) #check-steps code.function (code.unfolded 𝓤 H 𝓜 𝓡)
     (meets 𝓤 H (𝓖 .A) (givenOf 𝓤 H 𝓜 𝓖) (𝓜 .mem) (𝓡 .run) (tablesOf 𝓤 H 𝓜 (tables 𝓤 H 𝓜 𝓡 code.env))
-    (cited 𝓤 H (OfGraph 𝓤 H (𝓖 .A) (𝓜 .mem) (𝓡 .run)) 𝓜 𝓡 code.env #input-fault graph-def.routine code.calls-records·input-fault (graph-thm.met 𝓤 H 𝓜 𝓖 𝓡))
-    (cited 𝓤 H (OfSteps 𝓤 H (𝓖 .A) (𝓜 .mem) (𝓡 .run)) 𝓜 𝓡 code.env #scan-steps scan-def.routine code.calls-records·scan-steps (scan-thm.met 𝓤 H 𝓜 𝓖 𝓡)))
+    (cited 𝓤 H (OfGraph 𝓤 H (𝓖 .A) (𝓜 .mem) (𝓡 .run)) 𝓜 𝓡 code.env #input-fault graph-def.routine code.calls-records·check-steps·input-fault (graph-thm.met 𝓤 H 𝓜 𝓖 𝓡))
+    (cited 𝓤 H (OfSteps 𝓤 H (𝓖 .A) (𝓜 .mem) (𝓡 .run)) 𝓜 𝓡 code.env #scan-steps scan-def.routine code.calls-records·check-steps·scan-steps (scan-thm.met 𝓤 H 𝓜 𝓖 𝓡)))

@@ -1,8 +1,8 @@
 use mathlib.Core.Path.{_∙_}
 use borrow.Author.Needs.{needs}
 use Rattle.records.proofs.Scan.{is-out, stays, still-none, is-first}
-use Rattle.records.proofs.next_fault.Statement.{statement}
-use Rattle.records.proofs.next_fault.Tie as tie
+use Rattle.records.proofs.check_steps.next_fault.Statement.{statement}
+use Rattle.records.proofs.check_steps.next_fault.Tie as tie
 
 fault-requires : tie.Need-fault-requires
 fault-requires c κs = search needs
