@@ -5,6 +5,7 @@ pub use asking::live_letters;
 pub use checking::check_transform;
 pub use folding::collapse;
 pub use folding::collapse_all;
+pub use records::check_steps;
 pub use texts::parse_and_transform_paths;
 pub use texts::parse_header;
 pub use texts::print_active_subgraph;
