@@ -16,6 +16,8 @@
  *   rules   GFAFFIX_RULE numbers each:  id, length (the two are the key), first step, how many steps
  *   steps   GFAFFIX_STEP numbers each:  oriented node, its recorded length
  *
+ * gfaffix_check_steps alone takes steps in another form, as an array of gfaffix_step: there an element is one such struct.
+ *
  * A graph is nodes, letters, links and a gfaffix_counts; an event list or a table is rules, steps and a gfaffix_used. A
  * mark is 0, or 1 for deleted. An id is 1 to GFAFFIX_MAX_ID. An oriented node is one number, id times 2 plus direction (0
  * forward, 1 reverse): GFAFFIX_PACK, GFAFFIX_ID, GFAFFIX_DIRECTION. A walk is an array of oriented nodes.
@@ -77,7 +79,7 @@ extern "C" {
 #define GFAFFIX_IDS 11         /* a split would need an id above the range */
 #define GFAFFIX_ORDER 12       /* in an event list a step's own rule does not come later */
 #define GFAFFIX_NOT_FORMED 13  /* a graph, a table or an event list is not well formed */
-#define GFAFFIX_NO_STEPS 20    /* 20 to 28 are the checker's: a rule without steps */
+#define GFAFFIX_NO_STEPS 20    /* 20 to 28 are the checker's (gfaffix_check_steps gives 21 to 23): a rule without steps */
 #define GFAFFIX_DEAD_STEP 21   /* a step's node is not live */
 #define GFAFFIX_STEP_LENGTH 22 /* a step's recorded length is not the node's own */
 #define GFAFFIX_GAP 23         /* no link from the step before (gfaffix_spell_walk gives it as well) */
@@ -99,6 +101,13 @@ typedef struct {
     size_t rules;
     size_t steps;
 } gfaffix_used;
+
+/* A step as gfaffix_check_steps takes it: the oriented node in two, and its recorded length. */
+typedef struct {
+    uint64_t id;
+    uint64_t direction;
+    uint64_t length;
+} gfaffix_step;
 
 typedef struct {
     uint64_t number;
@@ -273,6 +282,15 @@ gfaffix_verdict gfaffix_check_transform(const uint64_t *old_nodes, size_t old_no
                                         const uint64_t *steps, size_t steps_len,
                                         gfaffix_used u,
                                         const uint64_t *protected_ids, size_t protected_ids_len);
+
+/* Whether steps is a walk of the graph with its nodes' lengths. 13 (also for an id or a direction out of range in any step,
+ * and for more than GFAFFIX_MAX_STEPS), 5, then the first of 21, 22 and 23 step by step, with 0 and the step's place, else 0.
+ * But for 21 to 23 both places are 0. Writes nothing. */
+gfaffix_verdict gfaffix_check_steps(const uint64_t *nodes, size_t nodes_len,
+                                    const uint8_t *text, size_t text_len,
+                                    const uint64_t *links, size_t links_len,
+                                    gfaffix_counts d,
+                                    const gfaffix_step *steps, size_t steps_len);
 
 /* The live part of a graph as S and L lines, into out; how many bytes. 13, 5, 7; then the length is 0. */
 gfaffix_written gfaffix_print_active_subgraph(const uint64_t *nodes, size_t nodes_len,

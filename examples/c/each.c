@@ -166,6 +166,14 @@ static void check(uint64_t last, size_t protected_count)
     printf("check_transform %llu %llu %llu\n", (number)v.number, (number)v.first, (number)v.second);
 }
 
+/* The walk of C8's rule 3 as records, the last one's length as given. */
+static void check_walk(uint64_t length)
+{
+    const gfaffix_step walk[] = {{2, GFAFFIX_FORWARD, 2}, {5, GFAFFIX_FORWARD, length}, {SLOT, SLOT, SLOT}};
+    gfaffix_verdict v = gfaffix_check_steps(NEW, LENT(walk));
+    printf("check_steps %llu %llu %llu\n", (number)v.number, (number)v.first, (number)v.second);
+}
+
 /* With this room for each text. */
 static void print(size_t graph, size_t table, size_t paths)
 {
@@ -199,6 +207,8 @@ int main(void)
     check(10, 0);
     check(8, 0);
     check(10, 2);
+    check_walk(1);
+    check_walk(2);
     print(64, 59, 15);
     print(63, 58, 14);
     return 0;
