@@ -284,8 +284,8 @@ gfaffix_verdict gfaffix_check_transform(const uint64_t *old_nodes, size_t old_no
                                         const uint64_t *protected_ids, size_t protected_ids_len);
 
 /* Whether steps is a walk of the graph with its nodes' lengths. 13 (also for an id or a direction out of range in any step,
- * and for more than GFAFFIX_MAX_STEPS), 5, then the first of 21, 22 and 23 step by step, with 0 and the step's place, else 0.
- * But for 21 to 23 both places are 0. Writes nothing. */
+ * and for more than GFAFFIX_MAX_STEPS), 5, then the first of 21, 22 and 23, step by step, else 0. The first place is 0, the
+ * second is the step's for 21 to 23, else 0. Writes nothing. */
 gfaffix_verdict gfaffix_check_steps(const uint64_t *nodes, size_t nodes_len,
                                     const uint8_t *text, size_t text_len,
                                     const uint64_t *links, size_t links_len,

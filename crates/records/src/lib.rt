@@ -1,5 +1,6 @@
 // Table steps as a lent slice of records: 01's second list of forms.
 pub mod check_steps;
+
 use handle::Handle;
 use store::Counts;
 ghost use Prim.Native.Nat.{_*_, _≤_, _<_};
