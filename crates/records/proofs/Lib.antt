@@ -1,3 +1,4 @@
+pub mod Lent
 pub mod Ranged
 pub mod Scan
 mod Worked
