@@ -196,6 +196,20 @@ static void try_steps(void)
     expanded("steps after expansion", n + 1, growing(1));
 }
 
+/* Round and round node 3, which is linked to itself. */
+static void try_records(void)
+{
+    const size_t n = GFAFFIX_MAX_STEPS;
+    const gfaffix_counts c = graph(3, 1);
+    gfaffix_step *walk = room(STEPS, sizeof *walk);
+    for (size_t i = 0; i < STEPS; i++)
+        walk[i] = (gfaffix_step){3, GFAFFIX_FORWARD, 1};
+    for (size_t more = 0; more < 2; more++)
+        said("steps as records", n + more,
+             gfaffix_check_steps(nodes, 4 * NODES, letters, LETTERS, links, 3 * LINKS, c, walk, n + more).number);
+    free(walk);
+}
+
 static void try_protected(void)
 {
     const size_t n = GFAFFIX_MAX_PROTECTED;
@@ -223,6 +237,7 @@ int main(void)
     try_links();
     try_rules();
     try_steps();
+    try_records();
     try_protected();
     return 0;
 }
