@@ -19,7 +19,7 @@ pub struct Saved {
 }
 
 // Why the last call failed.
-pub fn reason() -> i32 {
+pub(crate) fn reason() -> i32 {
     let error = os::errno();
     if error == 0 {
         return libc::EIO;
@@ -56,7 +56,7 @@ fn fill(fd: i32, buf: &mut [u8]) -> Got
 }
 
 // A file's bytes, as far as there is room for them.
-pub fn read(name: &[u8], buf: &mut [u8]) -> Got
+pub(crate) fn read(name: &[u8], buf: &mut [u8]) -> Got
     ensures { λ r. ⌜ Counts (r .len) (now (buf .exit)) ⌝ }
 {
     if is_standard(name) {
@@ -178,7 +178,7 @@ fn finish(name: &[u8], bytes: &[u8]) -> i32 {
 }
 
 // Both files, or the one that has a name. The first takes its name once both are whole.
-pub fn save(out: &[u8], page: &[u8], table: &[u8], rows: &[u8]) -> Saved {
+pub(crate) fn save(out: &[u8], page: &[u8], table: &[u8], rows: &[u8]) -> Saved {
     let first = begin(out, page);
     if first != 0 {
         return Saved {

@@ -54,7 +54,7 @@ fn too_large(err: i32, source: u64) {
 }
 
 // A refusal and what it is of.
-pub fn refused(err: i32, name: &[u8], source: u64, number: u64) {
+pub(crate) fn refused(err: i32, name: &[u8], source: u64, number: u64) {
     input_head(err, name);
     io::print_decimal(err, number);
     io::write_all(err, b": ");
@@ -67,7 +67,7 @@ pub fn refused(err: i32, name: &[u8], source: u64, number: u64) {
 }
 
 // The driver was stopped on its way.
-pub fn stopped(err: i32, name: &[u8], number: u64) {
+pub(crate) fn stopped(err: i32, name: &[u8], number: u64) {
     input_head(err, name);
     io::print_decimal(err, number);
     if number == 7 {
@@ -120,7 +120,7 @@ fn why_else(err: i32, error: i32) {
 }
 
 // Why a file cannot be read, and usage.
-pub fn unreadable(err: i32, name: &[u8], error: i32) {
+pub(crate) fn unreadable(err: i32, name: &[u8], error: i32) {
     input_head(err, name);
     io::write_all(err, b"cannot be read: ");
     why(err, error);
@@ -128,7 +128,7 @@ pub fn unreadable(err: i32, name: &[u8], error: i32) {
     usage(err);
 }
 
-pub fn unwritable(err: i32, name: &[u8], error: i32) {
+pub(crate) fn unwritable(err: i32, name: &[u8], error: i32) {
     head(err, name);
     io::write_all(err, b"cannot be written: ");
     why(err, error);
@@ -167,7 +167,7 @@ pub fn usage(err: i32) {
 }
 
 // What is wrong with the words, and usage.
-pub fn faulty(err: i32, words: &[u8], fault: u64) {
+pub(crate) fn faulty(err: i32, words: &[u8], fault: u64) {
     if fault == ask::UNKNOWN_OPTION {
         head(err, ask::first(words, ask::UNKNOWN));
         io::write_all(err, b"no such option\n");
