@@ -1,4 +1,4 @@
 // The program's outer part: its files and its lines on standard error. What it makes of a graph is desk's.
-pub mod files;
+mod files;
 pub mod run;
-pub mod say;
+mod say;

@@ -11,7 +11,12 @@ use request::ids;
 use request::ids::Listed;
 use scanning::Verdict;
 ghost use Prim.Native.Nat.{_≤_};
+ghost use mathlib.Core.Path.{_≡_};
+ghost use mathlib.Core.Bool.{false};
+ghost use lib.Dec.{eqb};
 ghost use lib.ListN.{length};
+ghost use Rattle.request.specs.Words.{wordsOf};
+ghost use Rattle.request.specs.Faults.{faultOf};
 
 const REFUSED: u64 = 1;
 
@@ -198,9 +203,9 @@ fn with_text(words: &[u8], out: i32, err: i32, most: usize) -> u64
     with_ids(words, &bytes[..n], out, err, most)
 }
 
-// `most` is how many events the driver has room for.
+// `most` is how many events the driver has room for. Words with a fault end in 2, whatever the files hold.
 pub fn run(words: &[u8], out: i32, err: i32, most: usize) -> u64
-    ensures { λ r. ⌜ r ≤ 3 ⌝ }
+    ensures { λ r. ⌜ (r ≤ 3) × ((eqb (faultOf (wordsOf (now (words .entry)))) 0 ≡ false) → r ≡ 2) ⌝ }
 {
     let fault = ask::fault(words);
     if fault != ask::FINE {
@@ -208,4 +213,12 @@ pub fn run(words: &[u8], out: i32, err: i32, most: usize) -> u64
         return UNUSABLE;
     }
     with_text(words, out, err, most)
+}
+
+// The words are more than the program takes.
+pub fn too_long(err: i32) -> u64
+    ensures { λ r. ⌜ r ≡ 2 ⌝ }
+{
+    say::too_long(err);
+    UNUSABLE
 }

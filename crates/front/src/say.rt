@@ -159,11 +159,16 @@ fn fault_line(err: i32, fault: u64) {
     }
 }
 
-pub fn usage(err: i32) {
+fn usage(err: i32) {
     io::write_all(
         err,
         b"usage: gfaffix [GRAPH] [-o OUT] [-t TABLE] [-c] [-x IDS]\n",
     );
+}
+
+pub(crate) fn too_long(err: i32) {
+    io::write_all(err, b"gfaffix: more than 32768 bytes of words\n");
+    usage(err);
 }
 
 // What is wrong with the words, and usage.

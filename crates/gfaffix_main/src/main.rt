@@ -47,9 +47,7 @@ fn run() -> u64 {
     let mut words = [0u8; 32768];
     let c = collect(&mut words);
     if !c.whole {
-        io::write_all(STDERR_FILENO, b"gfaffix: more than 32768 bytes of words\n");
-        front::say::usage(STDERR_FILENO);
-        return 2;
+        return front::run::too_long(STDERR_FILENO);
     }
     let n = c.len;
     front::run::run(&words[..n], STDOUT_FILENO, STDERR_FILENO, 8192)
