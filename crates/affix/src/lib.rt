@@ -1,5 +1,7 @@
 // The shared prefix of a group of oriented nodes. A member is a packed oriented node.
 // No link is read, so the contracts name none.
+#![tactic(auto)]
+
 ghost use Rattle.std.specs.Prelude.{◌+◌, ◌*◌, ◌≤◌, ◌<◌, ◌≡◌, [], ◌∷◌, ◌++◌, eqb, length, take, drop, get_or};
 ghost use Rattle.kit.specs.Loops.{any};
 ghost use Rattle.handle.specs.Handle.{id_of};

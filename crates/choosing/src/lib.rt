@@ -1,4 +1,6 @@
 // Which group the driver takes next. Who calls these has tested that the store is well formed.
+#![tactic(auto)]
+
 ghost use Rattle.std.specs.Prelude.{◌*◌, ◌≤◌, ◌≡◌, true, [], ◌∷◌, length};
 ghost use Rattle.kit.specs.Loops.{all, any};
 ghost use Rattle.handle.specs.Handle.{max_id, is_id, pack};

@@ -1,4 +1,6 @@
 // A collapse of a group, in the arrays that hold graph and events.
+#![tactic(auto)]
+
 mod make;
 pub mod number;
 mod plan;

@@ -1,4 +1,6 @@
 // The driver: collapses one group after another until none is left.
+#![tactic(auto)]
+
 pub mod drive;
 
 ghost use Rattle.std.specs.Prelude.{◌≡◌};

@@ -1,5 +1,7 @@
 // Event lists and tables in lent flat arrays. A rule is four numbers (id, length, first step, steps), a step two
 // (packed oriented node, length).
+#![tactic(auto)]
+
 ghost use Rattle.std.specs.Prelude.{◌*◌, ◌≤◌, ◌≡◌, true, ◌&&◌, eqb, length, drop};
 ghost use Rattle.kit.specs.Loops.{all, any};
 ghost use Rattle.events.specs.Events.{rule, rules_of, steps_of, list_of, find_rule, keyed};

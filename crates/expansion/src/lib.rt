@@ -1,5 +1,7 @@
 // Expansion of an event list into a table. The table is filled from its last rule back, so that the walk of a rule that a
 // lookup finds is expanded already: however long a chain of events is, expand_node and expand_walk nest twice at most.
+#![tactic(auto)]
+
 ghost use Rattle.std.specs.Prelude.{◌+◌, ◌-◌, ◌*◌, ◌≤◌, ◌<◌, ◌≡◌, true, cond, length, take, drop, get_or};
 ghost use Rattle.std.proofs.lemmas.List.Edits.{sets};
 ghost use Rattle.kit.specs.Layout.{encode};

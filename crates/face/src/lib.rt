@@ -1,4 +1,6 @@
 // C's face: each public operation under the name `gfaffix_NAME`, one module each, with the contract that the operation has. include/gfaffix.h declares them.
+#![tactic(auto)]
+
 pub mod check_steps;
 pub mod check_transform;
 pub mod collapse;

@@ -1,4 +1,6 @@
 // What a line alone is refused for, and the link that a line says.
+#![tactic(auto)]
+
 ghost use Rattle.std.specs.Prelude.{◌≡◌, ◌||◌, ◌+◌, ◌<◌, eqb, ltb, length, get_or};
 ghost use Rattle.kit.specs.Loops.{any};
 ghost use Rattle.handle.specs.Handle.{pack};

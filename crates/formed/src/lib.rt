@@ -1,4 +1,6 @@
 // Whether a store is well formed: 01's 13, then 5. These take any arrays and any counts.
+#![tactic(auto)]
+
 ghost use Rattle.std.specs.Prelude.{◌+◌, ◌*◌, ◌≤◌, ◌≡◌, length, take, drop};
 ghost use Rattle.kit.specs.Loops.{all, any};
 ghost use Rattle.handle.specs.Edge.{edge, same_ends};

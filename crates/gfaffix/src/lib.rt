@@ -1,4 +1,6 @@
 // The public operations, one module each. None asks anything of its caller: whatever the arrays and counts are, it answers.
+#![tactic(auto)]
+
 pub use asking::{enumerate_branch, get_shared_prefix, live_letters};
 pub use checking::check_transform;
 pub use folding::{collapse, collapse_all};

@@ -1,4 +1,6 @@
 // The program: its words to a run, and the status to descriptor 3, where bin/gfaffix waits for it.
+#![tactic(auto)]
+
 ghost use Rattle.std.specs.Prelude.{◌≡◌};
 ghost use Rattle.io.specs.Counts.{IsPrefixLen};
 

@@ -1,5 +1,7 @@
 // Groups of an oriented node: its live right neighbours by first letter and set of live left neighbours.
 // Who calls these has tested that the store is well formed.
+#![tactic(auto)]
+
 ghost use Rattle.std.specs.Prelude.{◌+◌, ◌-◌, ◌*◌, ◌≤◌, ◌≡◌, true, cond, [], eqb, length, take};
 ghost use Rattle.kit.specs.Loops.{all, keep};
 ghost use Rattle.kit.specs.Put.{Put};

@@ -1,4 +1,6 @@
 // The oriented node, and a link's two ends in their written form.
+#![tactic(auto)]
+
 ghost use Rattle.std.specs.Prelude.{◌≡◌, ◌≤◌};
 ghost use Rattle.handle.specs.Handle.{max_id, pack, id_of, dir_of, flip, is_handle, same_handle, before};
 ghost use Rattle.handle.specs.Edge.{edge, turned, both_forward, written, same_ends, same_link, edge_before};

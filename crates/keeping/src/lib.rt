@@ -1,4 +1,6 @@
 // Whether the new graph has kept what the old one had: 26 for nodes, 27 for links.
+#![tactic(auto)]
+
 ghost use Rattle.std.specs.Prelude.{◌+◌, ◌*◌, ◌≤◌, ◌<◌, ◌≡◌, true, cond, ◌||◌, [], eqb, leb, ltb, length, take, drop};
 ghost use Rattle.kit.specs.Loops.{all, count};
 ghost use Rattle.letters.specs.Sequences.{same_spelling};

@@ -1,5 +1,7 @@
 // Records in flat slices of numbers, the plain loops over them, text being written and decimal numbers:
 // the shared definitions (specs/) and laws (proofs/), what a lookup answers, and the writers of a number and of bytes.
+#![tactic(auto)]
+
 ghost use Rattle.std.specs.Prelude.{◌≡◌, ◌+◌, ◌≤◌, length};
 ghost use Rattle.kit.specs.Put.{Put};
 ghost use Rattle.kit.specs.Decimal.{decimal};

@@ -1,4 +1,6 @@
 // Letters, as 01 "Nodes, letters, links" has them: complements by a table, upper case, and the tests.
+#![tactic(auto)]
+
 ghost use Rattle.std.specs.Prelude.{◌≡◌};
 ghost use Rattle.letters.specs.Letters.{complement_of, is_letter, upper_of, same_letter, is_base};
 ghost use Rattle.letters.specs.Sequences.{all_letters};

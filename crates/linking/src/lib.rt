@@ -1,4 +1,6 @@
 // The links of a collapse, made in room of their own. There a mark says that a link is not live.
+#![tactic(auto)]
+
 ghost use Rattle.std.specs.Prelude.{◌+◌, ◌*◌, ◌≤◌, ◌≡◌, true, false, cond, ◌||◌, [], ◌∷◌, ◌++◌, map, eqb, leb, length, drop};
 ghost use Rattle.kit.specs.Layout.{encode};
 ghost use Rattle.kit.specs.Loops.{all};

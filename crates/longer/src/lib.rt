@@ -1,5 +1,7 @@
 // The events of a collapse and the list that they make longer. A member is a packed oriented node; `nodes` are those
 // before the collapse, and p letters are shared.
+#![tactic(auto)]
+
 ghost use Rattle.std.specs.Prelude.{◌+◌, ◌*◌, ◌^◌, ◌≤◌, ◌<◌, ◌≡◌, cond, not, [], ◌∷◌, ◌++◌, ltb, length, drop};
 ghost use Rattle.kit.specs.Loops.{any, count};
 ghost use Rattle.handle.specs.Handle.{max_id, id_of};

@@ -1,4 +1,6 @@
 // P and W lines out, with their walks rewritten. Who calls this has tested the old graph and the table.
+#![tactic(auto)]
+
 pub mod line;
 pub mod number;
 

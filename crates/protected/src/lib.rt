@@ -1,4 +1,6 @@
 // Protected ids, as a list that a caller lends.
+#![tactic(auto)]
+
 ghost use Rattle.std.specs.Prelude.{◌*◌, ◌≤◌, ◌≡◌, eqb, length, drop};
 ghost use Rattle.kit.specs.Loops.{any};
 ghost use Rattle.store.specs.Graph.{nodes_of};

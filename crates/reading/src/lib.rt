@@ -1,4 +1,6 @@
 // Reading GFA text into a store, in two passes.
+#![tactic(auto)]
+
 pub mod add;
 pub mod clear;
 pub mod pass_one;

@@ -1,4 +1,6 @@
 // Table steps as a lent slice of records: 01's second list of forms.
+#![tactic(auto)]
+
 pub mod check_steps;
 
 ghost use Rattle.std.specs.Prelude.{◌*◌, ◌≤◌, ◌<◌, ◌≡◌, [], eqb, length};

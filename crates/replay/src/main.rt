@@ -1,5 +1,7 @@
 // Replays cases: reads each, calls the public operation, prints what it answers and every lent array after the call
 // (docs/REPLAY.md).
+#![tactic(auto)]
+
 ghost use Rattle.std.specs.Prelude.{◌≤◌, length};
 ghost use Rattle.cases.specs.Answers.{Room};
 

@@ -1,5 +1,7 @@
 // Rewriting a walk by a table. A step is a packed oriented node.
 // Who calls the writers has tested the table, and has measured.
+#![tactic(auto)]
+
 ghost use Rattle.std.specs.Prelude.{◌+◌, ◌*◌, ◌≤◌, ◌<◌, ◌≡◌, true, [], length, get_or};
 ghost use Rattle.kit.specs.Put.{Put};
 ghost use Rattle.store.specs.Graph.{handle, nodes_of, graph_of};

@@ -1,5 +1,7 @@
 // The rules of a table, one by one: conditions 1 to 4.
 // Who calls the scan has tested both graphs and the table for 13.
+#![tactic(auto)]
+
 ghost use Rattle.std.specs.Prelude.{◌+◌, ◌-◌, ◌*◌, ◌≤◌, ◌<◌, ◌≡◌, true, cond, not, ◌||◌, [], ◌∷◌, map, eqb, length, take, drop, get_or};
 ghost use Rattle.kit.specs.Loops.{sum};
 ghost use Rattle.letters.specs.Sequences.{same_spelling};

@@ -1,1 +1,3 @@
 // Collapses one after another: statements in specs/, theorems in proofs/, no code.
+
+#![tactic(auto)]

@@ -1,4 +1,6 @@
 // Live neighbours of an oriented node, on its right and on its left.
+#![tactic(auto)]
+
 ghost use Rattle.std.specs.Prelude.{◌*◌, ◌≤◌, ◌≡◌, false, cond, [], ◌∷◌, length};
 ghost use Rattle.kit.specs.Loops.{all};
 ghost use Rattle.handle.specs.Edge.{edge};

@@ -1,5 +1,7 @@
 // Spelling a walk. A step is a packed oriented node.
 // Who calls the writer has measured: a long walk's letters can exceed any room.
+#![tactic(auto)]
+
 ghost use Rattle.std.specs.Prelude.{◌+◌, ◌*◌, ◌≤◌, ◌≡◌, [], ◌++◌, length, drop};
 ghost use Rattle.kit.specs.Put.{Put};
 ghost use Rattle.store.specs.Graph.{handle, nodes_of, links_of, graph_of};

@@ -1,4 +1,6 @@
 // Split of a node, in the arrays that hold the graph. No operation by itself: who calls it has tested what it requires.
+#![tactic(auto)]
+
 ghost use Rattle.std.specs.Prelude.{◌≡◌, true, cond, [], ◌∷◌, ◌++◌, map, ◌+◌, ◌*◌, ◌^◌, ◌≤◌, ◌<◌, length, drop};
 ghost use Rattle.kit.specs.Layout.{encode};
 ghost use Rattle.kit.specs.declared.Found.TheVariants.{At};

@@ -1,5 +1,7 @@
 // The graph in lent flat arrays: what is stored, lookups and views.
 // A node is four numbers (id, start, length, mark), a link three (from, to, mark).
+#![tactic(auto)]
+
 ghost use Rattle.std.specs.Prelude.{◌+◌, ◌*◌, ◌^◌, ◌≤◌, ◌<◌, ◌≡◌, true, length, take, drop};
 ghost use Rattle.kit.specs.Loops.{any};
 ghost use Rattle.letters.specs.Sequences.{letter_at};

@@ -1,5 +1,7 @@
 // The table as text. Who calls these has tested the old graph and the table. Neither letters nor links are read, so the contracts
 // name none.
+#![tactic(auto)]
+
 ghost use Rattle.std.specs.Prelude.{◌+◌, ◌*◌, ◌^◌, ◌≤◌, ◌<◌, ◌≡◌, true, [], ◌++◌, length};
 ghost use Rattle.kit.specs.Decimal.{decimal};
 ghost use Rattle.kit.specs.Loops.{all, lines};

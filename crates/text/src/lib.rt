@@ -1,4 +1,6 @@
 // Lines of GFA text: fields, names, steps, and what a line alone is refused for.
+#![tactic(auto)]
+
 pub mod header;
 pub mod names;
 pub mod pieces;

@@ -1,5 +1,7 @@
 // The program's runs for the tests: one to a line of standard input, whose words are parted by spaces. What a run writes to
 // standard error stands among the rest. A line that begins with `few ` has room for two events.
+#![tactic(auto)]
+
 ghost use Rattle.std.specs.Prelude.{◌≤◌, length};
 ghost use Rattle.io.specs.Counts.{IsPrefixLen};
 

@@ -1,4 +1,6 @@
 // The checker: the eight conditions.
+#![tactic(auto)]
+
 ghost use Rattle.std.specs.Prelude.{◌≡◌, true};
 ghost use Rattle.store.specs.Graph.{graph_of};
 ghost use Rattle.formed.specs.WellFormed.{well_formed};

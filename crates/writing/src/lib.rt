@@ -1,4 +1,6 @@
 // Text out: the live part of a graph, and the table.
+#![tactic(auto)]
+
 pub mod along;
 pub mod graph;
 pub mod marks;
