@@ -59,7 +59,7 @@ pub fn members_once(members: &[u64]) -> bool
 }
 
 // Where an oriented node's letters stand, and which way they are read.
-#[derive(Drop)]
+#[derive(Clone, Copy)]
 pub struct Reading {
     pub start: usize,
     pub len: usize,

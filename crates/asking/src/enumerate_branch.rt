@@ -6,7 +6,7 @@ use handle::Handle;
 use store::Counts;
 
 #[repr(C)]
-#[derive(Drop)]
+#[derive(Clone, Copy)]
 pub struct Branch {
     pub number: u64,
     pub groups: usize,

@@ -5,7 +5,7 @@ ghost use Rattle.asking.specs.GetSharedPrefix.{outcome, shared_prefix_outcome};
 use store::Counts;
 
 #[repr(C)]
-#[derive(Drop)]
+#[derive(Clone, Copy)]
 pub struct SharedPrefix {
     pub number: u64,
     pub length: usize,

@@ -5,7 +5,7 @@ ghost use Rattle.asking.specs.LiveLetters.{letter_total};
 use store::Counts;
 
 #[repr(C)]
-#[derive(Drop)]
+#[derive(Clone, Copy)]
 pub struct LetterTotal {
     pub number: u64,
     pub total: u64,

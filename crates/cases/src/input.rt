@@ -7,7 +7,7 @@ use crate::stream;
 use crate::stream::{END, Source};
 
 // A number that was read, or what stood there instead (ok is false).
-#[derive(Drop)]
+#[derive(Clone, Copy)]
 pub struct Taken {
     pub ok: bool,
     pub value: u64,
@@ -15,14 +15,14 @@ pub struct Taken {
 }
 
 // How many numbers of an array, or bytes of a word, were read; 0 where they were not to be had (ok is false).
-#[derive(Drop)]
+#[derive(Clone, Copy)]
 pub struct Filled {
     pub ok: bool,
     pub count: usize,
     pub source: Source,
 }
 
-#[derive(Drop)]
+#[derive(Clone, Copy)]
 enum Grown {
     To(u64),
     Over,

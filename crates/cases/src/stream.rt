@@ -5,7 +5,7 @@ ghost use Rattle.cases.specs.Stream.{Standing, Advanced, Skipped, line_ends};
 use libc::STDIN_FILENO;
 
 // The unread part of the buffer, and the byte read last: END past the end of the input.
-#[derive(Drop)]
+#[derive(Clone, Copy)]
 pub struct Source {
     pub at: usize,
     pub end: usize,

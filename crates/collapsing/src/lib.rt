@@ -28,7 +28,7 @@ use store::Counts;
 
 // 01's number, the shared node, and what is in use after it.
 #[repr(C)]
-#[derive(Drop)]
+#[derive(Clone, Copy)]
 pub struct Collapsed {
     pub number: u64,
     pub shared: u64,

@@ -20,7 +20,7 @@ pub const ROOM: u64 = 3;
 
 // The number and what it is of; the number that stopped the driver on its way, else 0; how much of the two rooms is to be
 // written; the verdict, where it was asked for.
-#[derive(Drop)]
+#[derive(Clone, Copy)]
 pub struct Done {
     pub number: u64,
     pub source: u64,

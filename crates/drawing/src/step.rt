@@ -10,7 +10,7 @@ use handle::Handle;
 use writing::{marks, put};
 
 // Where the next step goes, and how it is written.
-#[derive(Drop)]
+#[derive(Clone, Copy)]
 pub struct Pen {
     pub place: usize,
     pub mark: u64,

@@ -10,7 +10,7 @@ use store::Counts;
 
 // 01's number, how many collapses were made, and what is in use after them.
 #[repr(C)]
-#[derive(Drop)]
+#[derive(Clone, Copy)]
 pub struct Driven {
     pub number: u64,
     pub made: u64,

@@ -12,7 +12,7 @@ use kit::Found;
 
 // How many rules and steps are in use.
 #[repr(C)]
-#[derive(Drop)]
+#[derive(Clone, Copy)]
 pub struct Used {
     pub rules: usize,
     pub steps: usize,

@@ -11,7 +11,7 @@ const TEXT: u64 = 0;
 const FALLBACK: u64 = 1;
 
 #[repr(C)]
-#[derive(Drop)]
+#[derive(Clone, Copy)]
 pub struct HeaderPart {
     pub source: u64,
     pub place: usize,

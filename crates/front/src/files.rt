@@ -8,14 +8,14 @@ use libc::STDIN_FILENO;
 use request::ask::is_standard;
 
 // How many bytes were read, or why they were not: C's number for it, else 0.
-#[derive(Drop)]
+#[derive(Clone, Copy)]
 pub struct Got {
     pub error: i32,
     pub len: usize,
 }
 
 // Which file could not be written, and why.
-#[derive(Drop)]
+#[derive(Clone, Copy)]
 pub struct Saved {
     pub out: bool,
     pub error: i32,

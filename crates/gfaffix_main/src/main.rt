@@ -7,7 +7,7 @@ ghost use Rattle.io.specs.Counts.{IsPrefixLen};
 use libc::{STDERR_FILENO, STDOUT_FILENO};
 
 // The words, each ended by a 0, at the front of the room; whether they fit.
-#[derive(Drop)]
+#[derive(Clone, Copy)]
 struct Collected {
     whole: bool,
     len: usize,

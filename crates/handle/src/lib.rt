@@ -5,7 +5,7 @@ ghost use Rattle.std.specs.Prelude.{◌≡◌, ◌≤◌};
 ghost use Rattle.handle.specs.Handle.{max_id, pack, id_of, dir_of, flip, is_handle, same_handle, before};
 ghost use Rattle.handle.specs.Edge.{edge, turned, both_forward, written, same_ends, same_link, edge_before};
 
-#[derive(Drop)]
+#[derive(Clone, Copy)]
 pub struct Handle {
     pub packed: u64,
 }
@@ -82,7 +82,7 @@ impl Handle {
     }
 }
 
-#[derive(Drop)]
+#[derive(Clone, Copy)]
 pub struct Edge {
     pub from: Handle,
     pub to: Handle,

@@ -17,7 +17,7 @@ use handle::{Edge, Handle};
 use kit::Found;
 
 // How many links stand then, or that they do not fit.
-#[derive(Drop)]
+#[derive(Clone, Copy)]
 pub enum Made {
     Count(usize),
     Full,

@@ -100,7 +100,7 @@ pub fn keys_new(
 }
 
 // Where the events stand: the shared node, the next fresh id, the place of the next member.
-#[derive(Drop)]
+#[derive(Clone, Copy)]
 pub struct Run {
     pub x: Handle,
     pub fresh: u64,

@@ -19,7 +19,7 @@ use store::Counts;
 
 // 01's number, and what was read.
 #[repr(C)]
-#[derive(Drop)]
+#[derive(Clone, Copy)]
 pub struct Read {
     pub number: u64,
     pub counts: Counts,

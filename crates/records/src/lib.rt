@@ -12,7 +12,7 @@ use store::Counts;
 
 // A step of a table as a record of its own.
 #[repr(C)]
-#[derive(Drop)]
+#[derive(Clone, Copy)]
 pub struct Step {
     pub id: u64,
     pub direction: u64,

@@ -12,7 +12,7 @@ use libc::STDOUT_FILENO;
 use text_runs::{parsers, printers};
 
 // Where reading goes on, and how much of the answers waits in the buffer.
-#[derive(Drop)]
+#[derive(Clone, Copy)]
 struct Turn {
     source: Source,
     at: usize,

@@ -11,7 +11,7 @@ use text::pieces::piece_end;
 const NEWLINE: u8 = 10;
 
 // The number, and how many ids stand at the front of the room.
-#[derive(Drop)]
+#[derive(Clone, Copy)]
 pub struct Listed {
     pub number: u64,
     pub count: usize,

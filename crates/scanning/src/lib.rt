@@ -23,7 +23,7 @@ use store::Counts;
 
 // 01's number, and two places.
 #[repr(C)]
-#[derive(Drop)]
+#[derive(Clone, Copy)]
 pub struct Verdict {
     pub number: u64,
     pub first: u64,

@@ -14,7 +14,7 @@ use kit::Found;
 
 // How many nodes, letters and links are in use.
 #[repr(C)]
-#[derive(Drop)]
+#[derive(Clone, Copy)]
 pub struct Counts {
     pub nodes: usize,
     pub letters: usize,

@@ -7,7 +7,7 @@ pub mod pieces;
 pub mod steps;
 
 // What a text is refused for; 0 is nothing.
-#[derive(Drop)]
+#[derive(Clone, Copy)]
 pub struct Refusal {
     pub number: u64,
 }

@@ -18,7 +18,7 @@ use scanning::Verdict;
 use store::Counts;
 
 // Where a rule's steps stand.
-#[derive(Drop)]
+#[derive(Clone, Copy)]
 pub struct Walk {
     pub first: usize,
     pub count: usize,

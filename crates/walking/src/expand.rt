@@ -5,7 +5,7 @@ ghost use Rattle.walking.specs.Expand.{answer, outcome, expand_outcome};
 use events::Used;
 
 #[repr(C)]
-#[derive(Drop)]
+#[derive(Clone, Copy)]
 pub struct Expanded {
     pub number: u64,
     pub used: Used,

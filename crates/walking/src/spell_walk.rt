@@ -10,7 +10,7 @@ use kit::Found;
 use store::Counts;
 
 #[repr(C)]
-#[derive(Drop)]
+#[derive(Clone, Copy)]
 pub struct Spelling {
     pub number: u64,
     pub place: usize,

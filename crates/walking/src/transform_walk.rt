@@ -7,7 +7,7 @@ use kit::Found;
 use store::Counts;
 
 #[repr(C)]
-#[derive(Drop)]
+#[derive(Clone, Copy)]
 pub struct Rewritten {
     pub number: u64,
     pub length: usize,

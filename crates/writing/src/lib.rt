@@ -8,7 +8,7 @@ pub mod put;
 
 // 01's number, and how many bytes were written.
 #[repr(C)]
-#[derive(Drop)]
+#[derive(Clone, Copy)]
 pub struct Written {
     pub number: u64,
     pub len: usize,
