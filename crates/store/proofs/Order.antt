@@ -1,6 +1,6 @@
 -- Links in written order: each before all that follow it, each link of the list exactly once, and where one stands among them.
 use Prim.Native.Nat.{ℕ, suc, ◌+◌}
-use mathlib.Core.Path.{◌≡◌, refl, sym, ap, ◌∙◌}
+use mathlib.Core.Path.{subst, ◌≡◌, refl, sym, ap, ◌∙◌}
 use mathlib.Core.Bool.{Bool, true, false, cond, ◌&&◌}
 use mathlib.Core.List.Memᴰ
 use mathlib.Core.List.{List, [], ◌∷◌, Memᴰ}
@@ -216,8 +216,11 @@ place : {ys : List Link} → Written ys → (m : Link) → Memᴰ m ys → Stand
 place written_nil m k = absurd (Memᴰ.not-nil k)
 place (written_cons {x = y} {xs = ys} low s) m k = ⊎_elim first (λ j. later j (place s m j)) (Memᴰ.cases_cons k)
   where
+    front_stands : (n : ℕ) → n ≡ 0 → drop n (y ∷ ys) ≡ y ∷ drop (n + 1) (y ∷ ys)
+    front_stands n z = rw z
+
     first : m ≡ y → Stands m (y ∷ ys)
-    first e = rw (e, none_ahead y ys low)
+    first e = subst (λ (x : Link). Stands x (y ∷ ys)) (sym e) (front_stands (count (ahead y) (y ∷ ys)) (none_ahead y ys low))
 
     later : Memᴰ m ys → Stands m ys → Stands m (y ∷ ys)
     later j go =

@@ -1,7 +1,7 @@
 -- The definitions on a small graph: 1 is A, 2 is ACG, 3 is act and marked; 1+ to 2+, 1+ to 3+, 2+ to 2-, 2- to 2+.
 use Prim.Native.Nat.{ℕ}
 use mathlib.Core.Path.{◌≡◌, refl}
-use mathlib.Core.Bool.{true, false}
+use mathlib.Core.Bool.{false}
 use mathlib.Core.List.{List, [], ◌∷◌}
 use Rattle.kit.specs.declared.Found.TheVariants.{At, Nothing}
 use Rattle.letters.specs.Letters.{complement_of}
