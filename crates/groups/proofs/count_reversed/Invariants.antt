@@ -1,0 +1,15 @@
+use Prim.Native.Nat.{◌+◌, ◌≤◌}
+use mathlib.Core.Path.{◌≡◌}
+use lib.ListN.{length}
+use Rattle.kit.specs.Loops.{keep}
+use Rattle.store.specs.Graph.{graph_of}
+use Rattle.sides.proofs.Rising.{rest_above}
+use Rattle.groups.specs.Groups.{is_reverse}
+use Rattle.groups.specs.Search.{of_key}
+use Rattle.groups.proofs.count_reversed.Given as goal
+
+abbrev pub invariant-loop-c : goal.invariant-loop-c
+invariant-loop-c l = (l.n ≤ l.above) × (l.n + length (keep is_reverse (rest_above l.above (of_key (graph_of l.nodes l.text l.links l.c) l.v l.u))) ≡ length (keep is_reverse (of_key (graph_of l.nodes l.text l.links l.c) l.v l.u)))
+
+abbrev pub decreases-loop-c : goal.decreases-loop-c
+decreases-loop-c l = length (rest_above l.above (of_key (graph_of l.nodes l.text l.links l.c) l.v l.u))

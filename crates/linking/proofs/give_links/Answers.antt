@@ -1,0 +1,55 @@
+use Prim.Native.Nat.{ℕ, ◌≤◌}
+use mathlib.Core.Path.{◌≡◌}
+use mathlib.Core.Bool.{true}
+use mathlib.Core.List.{List}
+use native.Mathlib.Omega.{arith}
+use borrow.Author.Tests.{not-true, not-false}
+use lib.ListN.{length}
+use Rattle.handle.specs.declared.Handle.{Handle}
+use Rattle.handle.specs.Handle.{id_of}
+use Rattle.handle.specs.Edge.{edge}
+use Rattle.store.specs.Graph.{Link, links_of}
+use Rattle.split.specs.Split.{split_links}
+use Rattle.linking.specs.declared.Made.{Made}
+use Rattle.merging.specs.Merging.{add_link}
+use Rattle.merging.specs.Plan.{suffix_by}
+use Rattle.linking.specs.Fit.{Makes, given_by}
+use Rattle.linking.proofs.Growth.{add_more}
+use Rattle.linking.proofs.Fitting.{Holds, holds_links, holds_size, starts, made-count, then_makes, then_full}
+use Rattle.linking.proofs.give_links.Goals as goal
+
+-- a long member: the links are split, and then x is linked to its suffix
+module _ (x m : Handle) (fresh : ℕ) (rs : List Link) where
+  grown : length (split_links (id_of m) fresh rs) ≤ length (given_by true x fresh rs m)
+  grown = add_more (edge x (suffix_by fresh m)) (split_links (id_of m) fresh rs)
+
+  given : {l mid k : List ℕ} {r : Made} (n : ℕ) (to : Handle) → Holds l (split_links (id_of m) fresh rs) n mid → to ≡ suffix_by fresh m → Makes mid (add_link (edge x to) (links_of n mid)) r k → Makes l (given_by true x fresh rs m) r k
+  given n to h q s = then_makes h grown (rw (holds_links h, q) at s)
+
+pub returns-then-not-long : goal.returns-then-not-long
+returns-then-not-long c = rw (not-true c.args.long c.if-not-long.true-raw) c.pass_on.ensures
+
+pub split_off-requires : goal.split_off-requires
+split_off-requires c = record { count_in_bounds = omega arith; id_le_max_id = (omega (arith, c.id.ensures), c.requires.m_bound.1 (not-false c.args.long c.if-not-long.false-raw)) }
+
+pub returns-in_default : goal.returns-in_default
+returns-in_default c =
+    let a = c.args in
+    rw (not-false a.long c.if-not-long.false-raw)
+    (then_full (starts a.count a.links.now (omega arith)) (rw c.id.ensures at c.split_off.ensures) c.in_default.is (grown a.x a.m a.fresh (links_of a.count a.links.now)))
+
+pub suffix_of-requires : goal.suffix_of-requires
+suffix_of-requires c = c.requires.m_bound.1 (not-false c.args.long c.if-not-long.false-raw)
+
+pub add_link-requires : goal.add_link-requires
+add_link-requires c =
+    let n = c.n-1.given in
+    let h = made-count n.0.0 c.split_off.ensures n.1 in
+    omega (arith, h.room, holds_size h)
+
+pub returns : goal.returns
+returns c =
+    let n = c.n-1.given in
+    let a = c.args in
+    rw (not-false a.long c.if-not-long.false-raw)
+    (given a.x a.m a.fresh (links_of a.count a.links.now) n.0.0 c.suffix_of.result (made-count n.0.0 (rw c.id.ensures at c.split_off.ensures) n.1) c.suffix_of.ensures c.add_link.ensures)

@@ -1,0 +1,87 @@
+use Prim.Native.Nat.{ℕ, ◌≤◌, ◌<◌}
+use mathlib.Core.Path.{◌≡◌, refl, sym, ap, ◌∙◌}
+use mathlib.Core.Bool.{false}
+use mathlib.Core.List.{List, map}
+use native.Mathlib.Omega.{arith}
+use lib.Dec.{eqb}
+use lib.ListN.{length}
+use Rattle.handle.specs.declared.Handle.{Handle}
+use Rattle.handle.specs.Handle.{id_of}
+use Rattle.handle.specs.Edge.{edge}
+use Rattle.store.specs.Graph.{Link, handle, links_of}
+use Rattle.sides.specs.Sides.{next_above}
+use Rattle.sides.proofs.Rising.{rest_above}
+use Rattle.merging.specs.Merging.{add_link, add_links, read_as}
+use Rattle.merging.specs.Plan.{right_in}
+use Rattle.linking.proofs.Growth.{add_more, adds_more}
+use Rattle.linking.proofs.Fitting.{Holds, holds_links, starts, made-count, made_as, holds_size, then-own, then_full}
+use Rattle.linking.proofs.Passing.{to_pass, right-all, pass-one, pass_less, pass_end}
+use Rattle.linking.proofs.pass_on.Invariants.{Inv}
+use Rattle.linking.proofs.pass_on.Goals as goal
+
+-- a turn, which found y next and reads it as `to`
+record Met (links₀ : List ℕ) (count : ℕ) (m x : Handle) (links : List ℕ) (n above y : ℕ) (to : Handle) : Type 0 where
+  inv : Inv links₀ count m x links n above
+  away : eqb (id_of x) (id_of m) ≡ false
+  next_is : y ≡ next_above above (right_in (links_of n links) m)
+  some : y ≡ 0 → ⊥
+  to_is : to ≡ read_as m x (handle y)
+
+module _ {links₀ links : List ℕ} {count n above y : ℕ} {m x to : Handle} (k : Met links₀ count m x links n above y to) where
+  abbrev rs : List Link
+  rs = links_of n links
+
+  one : to_pass m x y (add_link (edge x to) rs) ≡ add_links x (map (read_as m x) (right_in (links_of count links₀) m)) (links_of count links₀)
+  one = rw k.to_is (sym (pass-one m x rs above y k.next_is k.away k.some) ∙ k.inv.todo)
+
+  grown : length (add_link (edge x to) rs) ≤ length (add_links x (map (read_as m x) (right_in (links_of count links₀) m)) (links_of count links₀))
+  grown =
+      omega (arith, adds_more x (map (read_as m x) (rest_above y (right_in (add_link (edge x to) rs) m))) (add_link (edge x to) rs), ap length one)
+
+  module _ {after : List ℕ} (i : ℕ) (s : Holds links (add_link (edge x to) rs) i after) where
+    turn : Inv links₀ count m x after i y
+    turn =
+        let own = then-own k.inv.holds i s (add_more (edge x to) rs) in
+        record { size = holds_size own; holds = own; todo = ap (to_pass m x y) (holds_links s) ∙ one }
+
+    less : length (rest_above y (right_in (links_of i after) m)) < length (rest_above above (right_in rs m))
+    less = rw (holds_links s, k.to_is) (pass_less m x rs above y k.next_is k.away k.some)
+
+pub loop-m-init : goal.loop-m-init
+loop-m-init c =
+    let a = c.args in
+    let rs = links_of a.count a.links.now in
+    record {
+      size = refl;
+      holds = starts a.count a.links.now (omega arith);
+      todo = ap (λ (hs : List Handle). add_links a.x (map (read_as a.m a.x) hs) rs) (right-all a.m rs c.requires.m_value.1);
+    }
+
+pub returns-then-y-eq0 : goal.returns-then-y-eq0
+returns-then-y-eq0 c =
+    let a = c.args in
+    made_as c.loop-m.invariant.holds (sym (pass_end a.m a.x (links_of c.loop-m.n c.loop-m.links) c.loop-m.above c.next_unmarked-y.result c.next_unmarked-y.ensures c.if-y-eq0.true) ∙ c.loop-m.invariant.todo)
+
+pub returns-in_default : goal.returns-in_default
+returns-in_default c =
+    let met : Met c.args.links.now c.args.count c.args.m c.args.x c.loop-m.links c.loop-m.n c.loop-m.above c.next_unmarked-y.result c.read_as-to.result =
+      record { inv = c.loop-m.invariant; away = c.requires.m_value.0; next_is = c.next_unmarked-y.ensures; some = c.if-y-eq0.false; to_is = c.read_as-to.ensures }
+    in
+    let k = met in
+    then_full k.inv.holds c.add_link.ensures c.in_default.is (grown k)
+
+pub loop-m-smaller : goal.loop-m-smaller
+loop-m-smaller c =
+    let met : Met c.args.links.now c.args.count c.args.m c.args.x c.loop-m.links c.loop-m.n c.loop-m.above c.next_unmarked-y.result c.read_as-to.result =
+      record { inv = c.loop-m.invariant; away = c.requires.m_value.0; next_is = c.next_unmarked-y.ensures; some = c.if-y-eq0.false; to_is = c.read_as-to.ensures }
+    in
+    let n = c.more-1.given in
+    less (met) n.0.0 (made-count n.0.0 c.add_link.ensures n.1)
+
+pub loop-m-preserved : goal.loop-m-preserved
+loop-m-preserved c =
+    let met : Met c.args.links.now c.args.count c.args.m c.args.x c.loop-m.links c.loop-m.n c.loop-m.above c.next_unmarked-y.result c.read_as-to.result =
+      record { inv = c.loop-m.invariant; away = c.requires.m_value.0; next_is = c.next_unmarked-y.ensures; some = c.if-y-eq0.false; to_is = c.read_as-to.ensures }
+    in
+    let n = c.more-1.given in
+    turn (met) n.0.0 (made-count n.0.0 c.add_link.ensures n.1)

@@ -1,0 +1,22 @@
+use mathlib.Core.Path.{refl, sym, ◌∙◌}
+use native.Mathlib.Omega.{arith}
+use Rattle.scanning.proofs.RuleTurns.{sum_over, sum-next, sum_done}
+use Rattle.scanning.proofs.lengths_sum.Goals as goal
+
+pub loop-j-init : goal.loop-j-init
+loop-j-init c = refl
+
+pub returns-then-left-n : goal.returns-then-left-n
+returns-then-left-n c =
+    let a = c.args in
+    sym (sum_over a.steps.now a.end c.loop-j.j c.loop-j.false (omega arith) c.if-left-n.true) ∙ c.loop-j.invariant
+
+pub loop-j-preserved : goal.loop-j-preserved
+loop-j-preserved c =
+    let a = c.args in
+    sym (sum-next a.steps.now a.end c.loop-j.j c.loop-j.false (omega arith) (omega arith)) ∙ c.loop-j.invariant
+
+pub returns : goal.returns
+returns c =
+    let a = c.args in
+    sum_done a.steps.now a.end c.loop-j.j c.loop-j.false c.loop-j-test.false ∙ c.loop-j.invariant

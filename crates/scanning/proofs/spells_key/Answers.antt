@@ -1,0 +1,182 @@
+use Prim.Native.Nat.{ℕ, ◌+◌, ◌*◌, ◌≤◌}
+use mathlib.Core.Path.{◌≡◌, sym, ap, ap₂, ◌∙◌}
+use mathlib.Core.Bool.{Bool, true, not, ◌&&◌, ◌||◌}
+use mathlib.Core.List.{List}
+use native.Mathlib.Omega.{arith}
+use borrow.Author.Tests.{eq-eqb, ne_eqb}
+use lib.Dec.{eqb}
+use lib.ListN.{length, get_or}
+use Rattle.kit.specs.declared.Found.TheVariants.{Nothing}
+use Rattle.letters.specs.Sequences.{same_spelling}
+use Rattle.handle.specs.Handle.{pack}
+use Rattle.handle.proofs.Handles.{id-pack, dir_pack}
+use Rattle.store.specs.declared.Counts.{Counts}
+use Rattle.store.specs.Graph.{Node, Graph, nodes_of, graph_of}
+use Rattle.store.specs.Views.{find_node, node_named}
+use Rattle.store.proofs.Lookups.{NodeFound, node-found, node_nowhere}
+use Rattle.affix.specs.declared.Reading.{Reading}
+use Rattle.affix.specs.Reading.{reading, reading_of}
+use Rattle.affix.proofs.LookedUp.{inside, reads}
+use Rattle.events.specs.Events.{rule}
+use Rattle.scanning.specs.Rules.{is_old_key}
+use Rattle.scanning.proofs.RuleTurns.{spelled}
+use Rattle.scanning.proofs.spells_key.Goals as goal
+
+abbrev place : ℕ → ℕ → Reading
+place start len = record { start = start; len = len; direction = 0 }
+
+-- whether the key is an old node of its length; x is whether the walk spells it
+module _ (nodes text : List ℕ) (c : Counts) (id len : ℕ) (x : Bool) where
+  abbrev old : Graph
+  old = graph_of nodes text [] c
+
+  abbrev passes : Bool
+  passes = not (is_old_key old (rule id len 0 0)) || x
+
+  not-old : find_node id (nodes_of c.nodes nodes) ≡ Nothing → true ≡ passes
+  not-old q = rw (node_nowhere id (nodes_of c.nodes nodes) q)
+
+  module _ (i : ℕ) (f : NodeFound c.nodes nodes id i) where
+    is_key : is_old_key old (rule id len 0 0) ≡ eqb (get_or nodes (4 * i + 2) 0) len
+    is_key = ap₂ (λ (b : Bool) (r : Node). b && eqb r.len len) f.is_stored f.here
+
+    other_length : (get_or nodes (4 * i + 2) 0 ≡ len → ⊥) → true ≡ passes
+    other_length n = sym (ap (λ (b : Bool). not b || x) (is_key ∙ ne_eqb _ _ n))
+
+    is_old : get_or nodes (4 * i + 2) 0 ≡ len → x ≡ passes
+    is_old e = sym (ap (λ (b : Bool). not b || x) (is_key ∙ eq-eqb _ _ e))
+
+    -- where its letters stand
+    at_key : get_or nodes (4 * i + 2) 0 ≡ len → place (get_or nodes (4 * i + 1) 0) len ≡ reading_of (nodes_of c.nodes nodes) (pack id 0)
+    at_key e =
+        ap (place (get_or nodes (4 * i + 1) 0)) (sym e)
+        ∙ ap₂ reading (sym (dir_pack id 0 (omega arith))) (sym (ap (λ (k : ℕ). node_named k (nodes_of c.nodes nodes)) (id-pack id 0 (omega arith)) ∙ f.here))
+
+pub find_node-requires : goal.find_node-requires
+find_node-requires c = c.requires.0.node_room
+
+pub returns-in_default : goal.returns-in_default
+returns-in_default c =
+    let a = c.args in
+    not-old a.old-nodes.now a.old-text.now a.c a.id a.len _ (sym c.find_node.ensures ∙ c.in_default.is)
+
+pub overflow_mul-i : goal.overflow_mul-i
+overflow_mul-i c =
+    let found : NodeFound c.args.c.nodes c.args.old-nodes.now c.args.id c.in-At.i =
+      let a = c.args in
+      node-found a.c.nodes a.old-nodes.now a.id c.in-At.i (sym c.find_node.ensures ∙ c.in-At.is)
+    in
+    let room : 4 * c.args.c.nodes ≤ length c.args.old-nodes.now =
+      c.requires.0.node_room
+    in
+    omega (arith, (found).within, room)
+
+pub overflow_add-i : goal.overflow_add-i
+overflow_add-i c =
+    let found : NodeFound c.args.c.nodes c.args.old-nodes.now c.args.id c.in-At.i =
+      let a = c.args in
+      node-found a.c.nodes a.old-nodes.now a.id c.in-At.i (sym c.find_node.ensures ∙ c.in-At.is)
+    in
+    let room : 4 * c.args.c.nodes ≤ length c.args.old-nodes.now =
+      c.requires.0.node_room
+    in
+    omega (arith, (found).within, room)
+
+pub offset_bounds-old_nodes-i : goal.offset_bounds-old_nodes-i
+offset_bounds-old_nodes-i c =
+    let found : NodeFound c.args.c.nodes c.args.old-nodes.now c.args.id c.in-At.i =
+      let a = c.args in
+      node-found a.c.nodes a.old-nodes.now a.id c.in-At.i (sym c.find_node.ensures ∙ c.in-At.is)
+    in
+    let room : 4 * c.args.c.nodes ≤ length c.args.old-nodes.now =
+      c.requires.0.node_room
+    in
+    omega (arith, (found).within, room)
+
+pub bounds-old_nodes-i : goal.bounds-old_nodes-i
+bounds-old_nodes-i c =
+    let found : NodeFound c.args.c.nodes c.args.old-nodes.now c.args.id c.in-At.i =
+      let a = c.args in
+      node-found a.c.nodes a.old-nodes.now a.id c.in-At.i (sym c.find_node.ensures ∙ c.in-At.is)
+    in
+    let room : 4 * c.args.c.nodes ≤ length c.args.old-nodes.now =
+      c.requires.0.node_room
+    in
+    omega (arith, (found).within, room)
+
+pub returns-then-old_nodes-i : goal.returns-then-old_nodes-i
+returns-then-old_nodes-i c =
+    let found : NodeFound c.args.c.nodes c.args.old-nodes.now c.args.id c.in-At.i =
+      let a = c.args in
+      node-found a.c.nodes a.old-nodes.now a.id c.in-At.i (sym c.find_node.ensures ∙ c.in-At.is)
+    in
+    let a = c.args in
+    other_length a.old-nodes.now a.old-text.now a.c a.id a.len _ c.in-At.i (found) c.if-old_nodes-i.true
+
+pub overflow_mul-r : goal.overflow_mul-r
+overflow_mul-r c =
+    let found : NodeFound c.args.c.nodes c.args.old-nodes.now c.args.id c.in-At.i =
+      let a = c.args in
+      node-found a.c.nodes a.old-nodes.now a.id c.in-At.i (sym c.find_node.ensures ∙ c.in-At.is)
+    in
+    let room : 4 * c.args.c.nodes ≤ length c.args.old-nodes.now =
+      c.requires.0.node_room
+    in
+    omega (arith, (found).within, room)
+
+pub overflow_add-r : goal.overflow_add-r
+overflow_add-r c =
+    let found : NodeFound c.args.c.nodes c.args.old-nodes.now c.args.id c.in-At.i =
+      let a = c.args in
+      node-found a.c.nodes a.old-nodes.now a.id c.in-At.i (sym c.find_node.ensures ∙ c.in-At.is)
+    in
+    let room : 4 * c.args.c.nodes ≤ length c.args.old-nodes.now =
+      c.requires.0.node_room
+    in
+    omega (arith, (found).within, room)
+
+pub offset_bounds-old_nodes-i-2 : goal.offset_bounds-old_nodes-i-2
+offset_bounds-old_nodes-i-2 c =
+    let found : NodeFound c.args.c.nodes c.args.old-nodes.now c.args.id c.in-At.i =
+      let a = c.args in
+      node-found a.c.nodes a.old-nodes.now a.id c.in-At.i (sym c.find_node.ensures ∙ c.in-At.is)
+    in
+    let room : 4 * c.args.c.nodes ≤ length c.args.old-nodes.now =
+      c.requires.0.node_room
+    in
+    omega (arith, (found).within, room)
+
+pub bounds-old_nodes-i-2 : goal.bounds-old_nodes-i-2
+bounds-old_nodes-i-2 c =
+    let found : NodeFound c.args.c.nodes c.args.old-nodes.now c.args.id c.in-At.i =
+      let a = c.args in
+      node-found a.c.nodes a.old-nodes.now a.id c.in-At.i (sym c.find_node.ensures ∙ c.in-At.is)
+    in
+    let room : 4 * c.args.c.nodes ≤ length c.args.old-nodes.now =
+      c.requires.0.node_room
+    in
+    omega (arith, (found).within, room)
+
+pub same_walk-requires : goal.same_walk-requires
+same_walk-requires c =
+    let found : NodeFound c.args.c.nodes c.args.old-nodes.now c.args.id c.in-At.i =
+      let a = c.args in
+      node-found a.c.nodes a.old-nodes.now a.id c.in-At.i (sym c.find_node.ensures ∙ c.in-At.is)
+    in
+    let a = c.args in
+    let e = at_key a.old-nodes.now a.old-text.now a.c a.id a.len true c.in-At.i (found) c.if-old_nodes-i.false in
+    record { len_in_bounds = (inside a.old-nodes.now a.old-text.now a.c c.requires.0 (pack a.id 0) _ e, c.requires.2); readable = c.requires.1 }
+
+pub returns : goal.returns
+returns c =
+    let found : NodeFound c.args.c.nodes c.args.old-nodes.now c.args.id c.in-At.i =
+      let a = c.args in
+      node-found a.c.nodes a.old-nodes.now a.id c.in-At.i (sym c.find_node.ensures ∙ c.in-At.is)
+    in
+    let a = c.args in
+    let l = c.if-old_nodes-i.false in
+    let e = at_key a.old-nodes.now a.old-text.now a.c a.id a.len true c.in-At.i (found) l in
+    let w = spelled (graph_of a.nodes.now a.text.now [] a.d) a.steps.now a.end a.first in
+    c.same_walk.ensures
+    ∙ ap (λ (t : List ℕ). same_spelling t w) (reads a.old-nodes.now a.old-text.now a.c c.requires.0 (pack a.id 0) _ e)
+    ∙ is_old a.old-nodes.now a.old-text.now a.c a.id a.len _ c.in-At.i (found) l

@@ -1,0 +1,37 @@
+use mathlib.Core.Path.{◌≡◌, sym, ap, ◌∙◌}
+use mathlib.Core.Logic.{⊎_elim}
+use native.Mathlib.Omega.{arith}
+use Rattle.kit.proofs.Laws.{left_none}
+use Rattle.store.specs.Graph.{link_layout, nodes_of}
+use Rattle.sides.specs.Sides.{bare}
+use Rattle.sides.proofs.Search.{from_slot, next-found, turn-live, turn_dead, turn-same}
+use Rattle.sides.proofs.next_side.Goals as goal
+
+pub loop-i-init : goal.loop-i-init
+loop-i-init c =
+    let a = c.args in
+    (omega arith, sym (rw (left_none link_layout a.c.links a.c.links a.links.now (omega arith))))
+
+pub loop-i-preserved-then-live_link : goal.loop-i-preserved-then-live_link
+loop-i-preserved-then-live_link c =
+    let a = c.args in
+    (omega arith, c.lead_side-found.ensures ∙ turn-live a.left a.v a.above (nodes_of a.c.nodes a.nodes.now) a.c.links a.links.now c.loop-i.i c.loop-i.best (omega arith) (omega arith) c.loop-i.invariant.1 (sym c.live_link.ensures ∙ c.if-live_link.true))
+
+pub loop-i-preserved : goal.loop-i-preserved
+loop-i-preserved c =
+    let a = c.args in (
+      omega arith,
+      ⊎_elim
+          (λ w. turn_dead a.left a.v a.above (nodes_of a.c.nodes a.nodes.now) a.c.links a.links.now c.loop-i.i c.loop-i.best (omega arith) (omega arith) c.loop-i.invariant.1 (sym w.2.ensures ∙ w.3.left))
+          (λ w. turn-same a.left a.v a.above (nodes_of a.c.nodes a.nodes.now) a.c.links a.links.now c.loop-i.i c.loop-i.best (omega arith) (omega arith) c.loop-i.invariant.1 (sym c.lead_side-found.ensures ∙ w.left))
+          c.else-found-best.branch,
+    )
+
+pub returns : goal.returns
+returns c =
+    let a = c.args in
+    let z : c.loop-i.i ≡ 0 = omega arith in
+    let g = bare a.nodes.now a.links.now a.c in
+    c.loop-i.invariant.1
+    ∙ ap (from_slot a.left a.v a.above g.nodes a.c.links a.links.now) z
+    ∙ next-found a.left g a.v a.above

@@ -1,0 +1,9 @@
+use mathlib.Core.Path.{sym, ◌∙◌}
+use borrow.Author.Tests.{eq-eqb, ne_eqb}
+use Rattle.writing.proofs.marks.arrow_of.Goals as goal
+
+pub returns-then-direction-eq-FORWARD : goal.returns-then-direction-eq-FORWARD
+returns-then-direction-eq-FORWARD c = rw (eq-eqb _ _ (sym c.direction.ensures ∙ c.if-direction-eq-FORWARD.true))
+
+pub returns : goal.returns
+returns c = rw (ne_eqb _ _ (λ e. c.if-direction-eq-FORWARD.false (c.direction.ensures ∙ e)))
