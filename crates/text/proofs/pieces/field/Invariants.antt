@@ -1,5 +1,6 @@
 use Prim.Native.Nat.{◌≤◌}
 use mathlib.Core.Path.{◌≡◌}
+use mathlib.Core.List.{[]}
 use lib.ListN.{length, get_or, drop}
 use Rattle.text.specs.Pieces.{pieces, field}
 use Rattle.text.proofs.pieces.field.Given as goal

@@ -19,4 +19,4 @@ loop-at-preserved c =
     (step.high, first-passed walk_step_number step.cut c.walk_step_number-number.ensures c.loop-at.invariant.1 c.if-number-ne0.false)
 
 pub returns : goal.returns
-returns c = rw (drop_of_length-le c.args.field.now c.loop-at-test.false) c c.loop-at.invariant.1
+returns c = rw (drop_of_length-le c.args.field.now c.loop-at-test.false) at c.loop-at.invariant.1
