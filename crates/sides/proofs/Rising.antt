@@ -83,7 +83,7 @@ pub of_rising : (xs : List Handle) {u : Handle} → Memᴰ u (rising xs) → Mem
 of_rising [] m = m
 of_rising (x ∷ xs) m = ⊎_elim (λ e. Memᴰ.head e) (λ k. Memᴰ.tail (of_rising xs k)) (inserted x (rising xs) m)
 
-pub in_rising : {xs : List Handle} {u : Handle} → Memᴰ u xs → Memᴰ u (rising xs)
+pub in_rising : {u : Handle} {xs : List Handle} → Memᴰ u xs → Memᴰ u (rising xs)
 in_rising (Memᴰ.head {x} {xs} e) = Memᴰ.cast e (enters x (rising xs))
 in_rising (Memᴰ.tail {x} {xs} m) = stays x (rising xs) (in_rising m)
 

@@ -54,6 +54,7 @@ names j (r ∷ rs) t = by (named j r) refl t (names j rs)
 
 -- and where no id is given twice, every node is the one that its id names
 pub only : {r : Node} (rs : List Node) → ids_once rs ≡ true → Memᴰ r rs → node_named r.id rs ≡ r
+only {r = r} [] t m = elim m [ ]
 only {r} (x ∷ rs) t (Memᴰ.head e) = rw (eq-eqb x.id r.id (ap (λ (n : Node). n.id) (sym e))) (sym e)
 only {r} (x ∷ rs) t (Memᴰ.tail m) =
     let n : named x.id r ≡ false = none_mem (named x.id) (distinct-first same_id x rs t) m in

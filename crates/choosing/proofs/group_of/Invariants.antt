@@ -1,6 +1,6 @@
 use Prim.Native.Nat.{ℕ}
 use mathlib.Core.Path.{◌≡◌}
-use mathlib.Core.List.{List, map}
+use mathlib.Core.List.{[], List, map}
 use lib.ListN.{length}
 use Rattle.kit.specs.Loops.{first_or}
 use Rattle.handle.specs.declared.Handle.{Handle}

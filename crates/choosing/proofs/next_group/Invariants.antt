@@ -1,3 +1,4 @@
+use mathlib.Core.List.{[]}
 use mathlib.Core.Path.{◌≡◌}
 use lib.ListN.{length}
 use Rattle.kit.specs.Loops.{first_or, lines}

@@ -12,12 +12,12 @@ use Rattle.groups.proofs.Placing.{downs, ups, placed}
 use Rattle.groups.proofs.write_group.Given as goal
 
 -- at the head of the loop: what is left of the members goes from base up to low, and from high on
-record Inv (ms : List Handle) (base : ℕ) (l₀ l : List ℕ) (low high above : ℕ) : Type 0 where
-  size : length l ≡ length l₀
-  at_low : low ≡ base + length (downs (rest_above above ms))
-  at_high : high + length (ups (rest_above above ms)) ≡ base + length ms
-  order : low ≤ high
-  todo : placed l base high (rest_above above ms) ≡ sets l₀ base (numbers (arranged ms))
+pub record Inv (ms : List Handle) (base : ℕ) (l₀ l : List ℕ) (low high above : ℕ) : Type 0 where
+  pub size : length l ≡ length l₀
+  pub at_low : low ≡ base + length (downs (rest_above above ms))
+  pub at_high : high + length (ups (rest_above above ms)) ≡ base + length ms
+  pub order : low ≤ high
+  pub todo : placed l base high (rest_above above ms) ≡ sets l₀ base (numbers (arranged ms))
 
 abbrev pub invariant-loop-c : goal.invariant-loop-c
 invariant-loop-c l = Inv (of_key (graph_of l.nodes l.text l.links l.c) l.v l.u) l.base l.initial.members l.members l.low l.high l.above

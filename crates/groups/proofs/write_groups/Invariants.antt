@@ -16,13 +16,13 @@ abbrev pub left : Graph → Handle → ℕ → List (List Handle)
 left g v above = map (group_of g (right_of g v)) (rest_above above (heads_of g v))
 
 -- at the head of the loop: what is left of the groups goes from `at` on, and of their ends from n on
-record Inv (g : Graph) (v : Handle) (m₀ e₀ m e : List ℕ) (n at above : ℕ) : Type 0 where
-  member_room : length m ≡ length m₀
-  end_room : length e ≡ length e₀
-  places : at + length (members_of (left g v above)) ≡ length (right_of g v)
-  number : n + length (left g v above) ≡ length (groups_of g v)
-  members_todo : sets m at (numbers (members_of (left g v above))) ≡ sets m₀ 0 (numbers (members_of (groups_of g v)))
-  ends_todo : sets e n (ends_from at (left g v above)) ≡ sets e₀ 0 (ends_from 0 (groups_of g v))
+pub record Inv (g : Graph) (v : Handle) (m₀ e₀ m e : List ℕ) (n at above : ℕ) : Type 0 where
+  pub member_room : length m ≡ length m₀
+  pub end_room : length e ≡ length e₀
+  pub places : at + length (members_of (left g v above)) ≡ length (right_of g v)
+  pub number : n + length (left g v above) ≡ length (groups_of g v)
+  pub members_todo : sets m at (numbers (members_of (left g v above))) ≡ sets m₀ 0 (numbers (members_of (groups_of g v)))
+  pub ends_todo : sets e n (ends_from at (left g v above)) ≡ sets e₀ 0 (ends_from 0 (groups_of g v))
 
 abbrev pub invariant-loop-c : goal.invariant-loop-c
 invariant-loop-c l = Inv (graph_of l.nodes l.text l.links l.c) l.v l.initial.members l.initial.ends l.members l.ends l.n l.at l.above

@@ -1,3 +1,4 @@
+use mathlib.Core.List.{[]}
 use Prim.Native.Nat.{ℕ}
 use mathlib.Core.Path.{ap, ap₂, ◌∙◌}
 use Rattle.handle.specs.declared.Handle.{Handle}

@@ -12,10 +12,10 @@ use Rattle.linking.proofs.Passing.{to_pass}
 use Rattle.linking.proofs.pass_on.Given as goal
 
 -- at the head of the loop: what is left to add, above the last neighbour, to the links that stand
-record Inv (links₀ : List ℕ) (count : ℕ) (m x : Handle) (links : List ℕ) (n above : ℕ) : Type 0 where
-  size : length links ≡ length links₀
-  holds : Holds links₀ (links_of n links) n links
-  todo : to_pass m x above (links_of n links) ≡ add_links x (map (read_as m x) (right_in (links_of count links₀) m)) (links_of count links₀)
+pub record Inv (links₀ : List ℕ) (count : ℕ) (m x : Handle) (links : List ℕ) (n above : ℕ) : Type 0 where
+  pub size : length links ≡ length links₀
+  pub holds : Holds links₀ (links_of n links) n links
+  pub todo : to_pass m x above (links_of n links) ≡ add_links x (map (read_as m x) (right_in (links_of count links₀) m)) (links_of count links₀)
 
 abbrev pub invariant-loop-m : goal.invariant-loop-m
 invariant-loop-m l = Inv l.initial.links l.count l.m l.x l.links l.n l.above

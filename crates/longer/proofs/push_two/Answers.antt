@@ -1,4 +1,4 @@
-use mathlib.Core.List.{◌∷◌}
+use mathlib.Core.List.{[], ◌∷◌}
 use Rattle.events.specs.Events.{step_layout, step_to}
 use Rattle.longer.proofs.Front.{front-then}
 use Rattle.longer.proofs.push_two.Goals as goal

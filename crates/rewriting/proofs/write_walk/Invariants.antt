@@ -1,5 +1,5 @@
 use Prim.Native.Nat.{ℕ, ◌-◌}
-use mathlib.Core.List.{List}
+use mathlib.Core.List.{[], List}
 use borrow.Author.Rules.{rules}
 use lib.ListN.{length}
 use Rattle.handle.specs.declared.Handle.{Handle}

@@ -1,7 +1,7 @@
 use Prim.Native.Nat.{ℕ}
 use mathlib.Core.Path.{sym, ap, ap₂, ◌∙◌}
 use mathlib.Core.Bool.{Bool, cond}
-use mathlib.Core.List.{List, ◌∷◌}
+use mathlib.Core.List.{[], List, ◌∷◌}
 use Rattle.handle.specs.declared.Handle.{Handle}
 use Rattle.handle.specs.Handle.{flip, same_handle}
 use Rattle.sides.specs.Search.{lowest}

@@ -2,7 +2,6 @@ use Prim.Native.Nat.{ℕ, ◌+◌, ◌<◌}
 use mathlib.Core.Path.{◌≡◌, refl, sym, ap, ◌∙◌}
 use mathlib.Core.Bool.{Bool, true, false, ◌&&◌}
 use mathlib.Core.List.{List}
-use mathlib.Core.Logic.{⊎_elim}
 use native.Mathlib.Omega.{arith}
 use borrow.Author.Tests.{not-true, not-false}
 use lib.ListN.{drop}
@@ -18,6 +17,7 @@ use Rattle.sides.specs.Sides.{bare, left_ends}
 use Rattle.sides.proofs.Rising.{all-rising}
 use Rattle.sides.proofs.left_in.Invariants.{all_from}
 use Rattle.sides.proofs.left_in.Goals as goal
+use Rattle.sides.proofs.left_in.Goals.{then-not-shared+else-live_link, else-not-shared}
 
 module _ (p : Handle → Bool) (u : Handle) (nodes : List Node) (n : ℕ) (l : List ℕ) (i : ℕ) (h : i < n) where
   live : live_link nodes (link_at l i) ≡ true → all_from p u nodes n l i ≡ (all p (left_ends u (link_at l i)) && all_from p u nodes n l (i + 1))
@@ -53,10 +53,10 @@ loop-i-preserved c =
     let a = c.args in
     let g = bare a.nodes.now a.links.now a.c in (
       omega arith,
-      ⊎_elim
-          (λ w. sym (dead (λ w. live_linked g (edge w a.v)) a.u g.nodes a.c.links a.links.now c.loop-i.i (omega arith) (sym w.2.ensures ∙ w.3.left)))
-          (λ w. sym (pass (λ w. live_linked g (edge w a.v)) a.u g.nodes a.c.links a.links.now c.loop-i.i (omega arith) (sym c.shared.ensures ∙ not-false _ w.left)))
-          c.if-not-shared.branch
+      elim c.if-not-shared.branch [
+        then-not-shared+else-live_link w ↦ sym (dead (λ w. live_linked g (edge w a.v)) a.u g.nodes a.c.links a.links.now c.loop-i.i (omega arith) (sym w.live_link.ensures ∙ w.if-live_link.false))
+      | else-not-shared w ↦ sym (pass (λ w. live_linked g (edge w a.v)) a.u g.nodes a.c.links a.links.now c.loop-i.i (omega arith) (sym c.shared.ensures ∙ not-false _ w.if-not-shared.false-raw))
+      ]
           ∙ c.loop-i.invariant.1,
     )
 

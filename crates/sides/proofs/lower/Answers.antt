@@ -1,6 +1,6 @@
-use mathlib.Core.Logic.{⊎_elim}
 use borrow.Author.Tests.{eq-eqb, ne_eqb, lt-ltb, le-ltb}
 use Rattle.sides.proofs.lower.Goals as goal
+use Rattle.sides.proofs.lower.Goals.{then-best-eq0-via-then-best-eq0, then-best-eq0-via-else-best-eq0+then-n-best}
 
 pub returns-then-n-above : goal.returns-then-n-above
 returns-then-n-above c =
@@ -11,7 +11,10 @@ pub returns-then-best-eq0 : goal.returns-then-best-eq0
 returns-then-best-eq0 c =
     let a = c.args in
     rw (lt-ltb a.above a.n c.if-n-above.false)
-    (⊎_elim (λ w. rw (eq-eqb _ _ w.taken)) (λ w. rw (ne_eqb _ _ w.0.left, w.1.taken)) c.then-best-eq0.branch)
+    (elim c.then-best-eq0.branch [
+      then-best-eq0-via-then-best-eq0 w ↦ rw (eq-eqb _ _ w.if-best-eq0.true)
+    | then-best-eq0-via-else-best-eq0+then-n-best w ↦ rw (ne_eqb _ _ w.if-best-eq0.false, lt-ltb _ _ w.if-n-best.true)
+    ])
 
 pub returns : goal.returns
 returns c =

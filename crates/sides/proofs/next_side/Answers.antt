@@ -1,11 +1,11 @@
 use mathlib.Core.Path.{◌≡◌, sym, ap, ◌∙◌}
-use mathlib.Core.Logic.{⊎_elim}
 use native.Mathlib.Omega.{arith}
 use Rattle.kit.proofs.Laws.{left_none}
 use Rattle.store.specs.Graph.{link_layout, nodes_of}
 use Rattle.sides.specs.Sides.{bare}
 use Rattle.sides.proofs.Search.{from_slot, next-found, turn-live, turn_dead, turn-same}
 use Rattle.sides.proofs.next_side.Goals as goal
+use Rattle.sides.proofs.next_side.Goals.{else-found-best-via-then-found-best+else-live_link, else-found-best-via-else-found-best}
 
 pub loop-i-init : goal.loop-i-init
 loop-i-init c =
@@ -21,10 +21,10 @@ pub loop-i-preserved : goal.loop-i-preserved
 loop-i-preserved c =
     let a = c.args in (
       omega arith,
-      ⊎_elim
-          (λ w. turn_dead a.left a.v a.above (nodes_of a.c.nodes a.nodes.now) a.c.links a.links.now c.loop-i.i c.loop-i.best (omega arith) (omega arith) c.loop-i.invariant.1 (sym w.2.ensures ∙ w.3.left))
-          (λ w. turn-same a.left a.v a.above (nodes_of a.c.nodes a.nodes.now) a.c.links a.links.now c.loop-i.i c.loop-i.best (omega arith) (omega arith) c.loop-i.invariant.1 (sym c.lead_side-found.ensures ∙ w.left))
-          c.else-found-best.branch,
+      elim c.else-found-best.branch [
+        else-found-best-via-then-found-best+else-live_link w ↦ turn_dead a.left a.v a.above (nodes_of a.c.nodes a.nodes.now) a.c.links a.links.now c.loop-i.i c.loop-i.best (omega arith) (omega arith) c.loop-i.invariant.1 (sym w.live_link.ensures ∙ w.if-live_link.false)
+      | else-found-best-via-else-found-best w ↦ turn-same a.left a.v a.above (nodes_of a.c.nodes a.nodes.now) a.c.links a.links.now c.loop-i.i c.loop-i.best (omega arith) (omega arith) c.loop-i.invariant.1 (sym c.lead_side-found.ensures ∙ w.if-found-best.false)
+      ],
     )
 
 pub returns : goal.returns

@@ -1,7 +1,6 @@
 use Prim.Native.Nat.{ℕ, suc, ◌+◌, ◌-◌, ◌<◌}
 use mathlib.Core.Path.{◌≡◌, sym, ap, ◌∙◌}
 use mathlib.Core.List.{List, ◌∷◌}
-use mathlib.Core.Logic.{⊎_elim}
 use native.Mathlib.Omega.{arith}
 use borrow.Author.Tests.{eqb-true}
 use Rattle.kit.proofs.Bools.{tests}
@@ -12,6 +11,7 @@ use Rattle.sides.proofs.Rising.{rest_all, next-step, next_end}
 use Rattle.sides.proofs.Search.{side_sorted}
 use Rattle.sides.proofs.Sides.{side_number}
 use Rattle.sides.proofs.nth_side.Goals as goal
+use Rattle.sides.proofs.nth_side.Goals.{then-u-eq0-via-then-u-eq0, then-u-eq0-via-else-u-eq0+then-n-k}
 
 -- the k-th of what is left once n are passed
 here : (n k : ℕ) {hs tail : List Handle} {h : Handle} → n ≡ k → hs ≡ h ∷ tail → nth_of (k - n) hs ≡ h.packed
@@ -32,10 +32,10 @@ returns-then-u-eq0 c =
     let a = c.args in
     let u = c.next_side-u.result in
     let xs : List Handle = side_of a.left (bare a.nodes.now a.links.now a.c) a.v in
-    ⊎_elim
-    (λ w. w.taken ∙ sym (ap (nth_of (a.k - c.loop-c.n)) (next_end c.loop-c.above xs u c.next_side-u.ensures w.taken)) ∙ c.loop-c.invariant.1)
-    (λ w. sym (here c.loop-c.n a.k (eqb-true _ _ w.1.taken) (next-step c.loop-c.above u (side_sorted a.left (bare a.nodes.now a.links.now a.c) a.v) c.next_side-u.ensures w.0.left).rest) ∙ c.loop-c.invariant.1)
-    c.then-u-eq0.branch
+    elim c.then-u-eq0.branch [
+      then-u-eq0-via-then-u-eq0 w ↦ w.if-u-eq0.true ∙ sym (ap (nth_of (a.k - c.loop-c.n)) (next_end c.loop-c.above xs u c.next_side-u.ensures w.if-u-eq0.true)) ∙ c.loop-c.invariant.1
+    | then-u-eq0-via-else-u-eq0+then-n-k w ↦ sym (here c.loop-c.n a.k w.if-n-k.true (next-step c.loop-c.above u (side_sorted a.left (bare a.nodes.now a.links.now a.c) a.v) c.next_side-u.ensures w.if-u-eq0.false).rest) ∙ c.loop-c.invariant.1
+    ]
 
 pub overflow_add-n : goal.overflow_add-n
 overflow_add-n c = omega (arith, tests)

@@ -1,6 +1,6 @@
 use mathlib.Core.Path.{◌≡◌, sym, ap, ap₂, ◌∙◌}
 use mathlib.Core.Bool.{Bool, true, false, cond, ◌&&◌}
-use mathlib.Core.List.{◌∷◌}
+use mathlib.Core.List.{[], ◌∷◌}
 use Rattle.kit.specs.Loops.{all}
 use Rattle.kit.proofs.Meaning.{all_append}
 use Rattle.handle.specs.declared.Handle.{Handle}

@@ -1,3 +1,4 @@
+use mathlib.Core.List.{[]}
 use Rattle.store.specs.Graph.{graph_of}
 use Rattle.store.specs.Views.{spell}
 use Rattle.spelling.proofs.Writing.{writing_none, writing-room, writing-next, writing-all}

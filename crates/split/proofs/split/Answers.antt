@@ -8,5 +8,5 @@ use Rattle.split.proofs.split.Goals as goal
 pub split_links-requires : goal.split_links-requires
 split_links-requires c =
     let a = c.args in
-    let rs = nodes_of a.node-count a.nodes.now in
+    let rs = nodes_of a.node_count a.nodes.now in
     omega (arith, stored-largest a.id rs (found-any (named a.id) 0 a.at rs c.requires.at_lt_node_count.1))

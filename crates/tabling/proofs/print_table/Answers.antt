@@ -1,3 +1,4 @@
+use mathlib.Core.List.{[]}
 use Rattle.store.specs.Graph.{graph_of}
 use Rattle.events.specs.Events.{list_of}
 use Rattle.writing.specs.TableText.{table_text}

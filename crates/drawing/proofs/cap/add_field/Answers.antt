@@ -1,6 +1,6 @@
 use Prim.Native.Nat.{ℕ}
 use mathlib.Core.Path.{ap}
-use mathlib.Core.List.{List, ◌∷◌, ◌++◌}
+use mathlib.Core.List.{[], List, ◌∷◌, ◌++◌}
 use borrow.Author.Rules.{rules}
 use Rattle.drawing.proofs.Capping.{capped_is, capped-then}
 use Rattle.drawing.proofs.cap.add_field.Goals as goal

@@ -1,6 +1,6 @@
 use Prim.Native.Nat.{◌^◌, ◌<◌}
 use mathlib.Core.Path.{refl, ap}
-use mathlib.Core.List.{map}
+use mathlib.Core.List.{[], map}
 use native.Mathlib.Omega.{arith}
 use borrow.Author.Rules.{rules}
 use lib.ListN.{length}

@@ -1,6 +1,6 @@
 use Prim.Native.Nat.{ℕ}
 use mathlib.Core.Path.{ap}
-use mathlib.Core.List.{List, map}
+use mathlib.Core.List.{[], List, map}
 use borrow.Author.Rules.{rules}
 use lib.ListN.{drop_of_length-le}
 use Rattle.store.specs.Graph.{graph_of}

@@ -1,5 +1,5 @@
 use Prim.Native.Nat.{ℕ, ◌-◌, ◌≤◌}
-use mathlib.Core.List.{List, ◌++◌}
+use mathlib.Core.List.{[], List, ◌++◌}
 use lib.ListN.{drop}
 use Rattle.store.specs.Graph.{Link, links_of}
 use Rattle.merging.specs.Plan.{remark}

@@ -1,3 +1,4 @@
+use mathlib.Core.List.{[]}
 use Prim.Native.Nat.{◌-◌, ◌≤◌}
 use lib.ListN.{length, drop}
 use Rattle.kit.specs.Loops.{lines}

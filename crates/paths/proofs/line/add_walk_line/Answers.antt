@@ -1,3 +1,4 @@
+use mathlib.Core.List.{[]}
 use borrow.Author.Rules.{rules}
 use Rattle.store.specs.Graph.{graph_of}
 use Rattle.events.specs.Events.{list_of}

@@ -11,13 +11,13 @@ use Rattle.reading.proofs.Turns.{Turn}
 use Rattle.reading.proofs.pass_one.pass_one.Given as goal
 
 -- at the head of the loop: the lines from `at` on lead to where all of them do
-record Inv (text nodes₀ letters₀ : List ℕ) (used₀ : Counts) (nodes letters : List ℕ) (used : Counts) (at : ℕ) : Type 0 where
-  bound : at ≤ length text
-  nodes_size : length nodes ≡ length nodes₀
-  letters_size : length letters ≡ length letters₀
-  node_room : 4 * used.nodes ≤ length nodes
-  letter_room : used.letters ≤ length letters
-  turn : (links : List ℕ) (l : Store) (g : Graph) → Held l g (store nodes₀ letters₀ links) used₀ → Turn l (pass_one_line l) (lines_of (drop at text)) (pass (pass_one_line l) (going g) (lines_of text)) (store nodes letters links) used
+pub record Inv (text nodes₀ letters₀ : List ℕ) (used₀ : Counts) (nodes letters : List ℕ) (used : Counts) (at : ℕ) : Type 0 where
+  pub bound : at ≤ length text
+  pub nodes_size : length nodes ≡ length nodes₀
+  pub letters_size : length letters ≡ length letters₀
+  pub node_room : 4 * used.nodes ≤ length nodes
+  pub letter_room : used.letters ≤ length letters
+  pub turn : (links : List ℕ) (l : Store) (g : Graph) → Held l g (store nodes₀ letters₀ links) used₀ → Turn l (pass_one_line l) (lines_of (drop at text)) (pass (pass_one_line l) (going g) (lines_of text)) (store nodes letters links) used
 
 abbrev pub invariant-loop-r : goal.invariant-loop-r
 invariant-loop-r l = Inv l.text l.initial.nodes l.initial.letters l.initial.used l.nodes l.letters l.used l.at

@@ -11,12 +11,12 @@ use Rattle.reading.proofs.Turns.{Turn}
 use Rattle.reading.proofs.pass_two.pass_two.Given as goal
 
 -- as in pass one
-record Inv (text nodes links₀ : List ℕ) (used₀ : Counts) (links : List ℕ) (used : Counts) (at : ℕ) : Type 0 where
-  bound : at ≤ length text
-  links_size : length links ≡ length links₀
-  same_nodes : used.nodes ≡ used₀.nodes
-  link_room : 3 * used.links ≤ length links
-  turn : (letters : List ℕ) (l : Store) (g : Graph) → Held l g (store nodes letters links₀) used₀ → Turn l (pass_two_line l) (lines_of (drop at text)) (pass (pass_two_line l) (going g) (lines_of text)) (store nodes letters links) used
+pub record Inv (text nodes links₀ : List ℕ) (used₀ : Counts) (links : List ℕ) (used : Counts) (at : ℕ) : Type 0 where
+  pub bound : at ≤ length text
+  pub links_size : length links ≡ length links₀
+  pub same_nodes : used.nodes ≡ used₀.nodes
+  pub link_room : 3 * used.links ≤ length links
+  pub turn : (letters : List ℕ) (l : Store) (g : Graph) → Held l g (store nodes letters links₀) used₀ → Turn l (pass_two_line l) (lines_of (drop at text)) (pass (pass_two_line l) (going g) (lines_of text)) (store nodes letters links) used
 
 abbrev pub invariant-loop-r : goal.invariant-loop-r
 invariant-loop-r l = Inv l.text l.nodes l.initial.links l.initial.used l.links l.used l.at

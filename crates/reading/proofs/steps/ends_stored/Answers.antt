@@ -1,6 +1,6 @@
 use mathlib.Core.Path.{sym, ap, ◌∙◌}
 use mathlib.Core.Bool.{Bool}
-use mathlib.Core.List.{List, ◌∷◌}
+use mathlib.Core.List.{[], List, ◌∷◌}
 use borrow.Author.Tests.{not-true, not-false}
 use Rattle.handle.specs.Handle.{id_of}
 use Rattle.handle.specs.declared.Edge.{Edge}

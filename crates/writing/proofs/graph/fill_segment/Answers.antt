@@ -1,3 +1,4 @@
+use mathlib.Core.List.{[]}
 use native.Mathlib.Omega.{arith}
 use Rattle.store.specs.Graph.{graph_of}
 use Rattle.affix.proofs.LookedUp.{inside}

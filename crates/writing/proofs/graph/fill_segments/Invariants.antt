@@ -1,3 +1,4 @@
+use mathlib.Core.List.{[]}
 use lib.ListN.{length}
 use Rattle.kit.specs.Loops.{lines}
 use Rattle.store.specs.Graph.{graph_of, nodes_of}
