@@ -17,8 +17,10 @@ import sys
 
 W = r"[^\s(){}.;,@\"«»\[\]\\]+"
 TOKEN = re.compile(r"--[^\n]*|\"(?:[^\"\\]|\\.)*\"|«[^»]*»|%s(?:\.%s)*|\s+|." % (W, W), re.S)
-START = {"args", "requires", "ranges", "utf8", "captures", "type-inv", "type_inv", "type-invariants"}
+START = {"args", "requires", "ranges", "utf8", "captures", "type-inv", "well-formed"}
 norm = lambda it: re.sub(r"[-_]+", "-", it)
+# The step of a name that older scripts took for a lemma of antt, as `len_of_lem`, `Node-kept` or `well-formed-2`.
+loose = lambda it: re.sub(r"[-_]", "", re.sub(r"_lem(?=\d*$)", "", it)).lower()
 LEFT = []
 
 
@@ -169,14 +171,19 @@ class Turner:
     def step(self, k, field):
         """Returns the place whose step has that old name, from the place k upward."""
         f = norm(field)
+        if norm(self.n.places[k][2][0]) != f and loose(self.n.places[k][2][0]) == loose(field):
+            return k
         for it in self.n.up(k):
             if norm(self.n.places[it][2][0]) == f:
+                return it
+        for it in self.n.up(k):
+            if loose(self.n.places[it][2][0]) == loose(field):
                 return it
         chain = list(self.n.up(self.where)) if self.where is not None else []
         for it in chain:
             if norm(self.n.places[it][2][0]) == f:
                 return it
-        # a step of an arm, by the words of arms
+        # a step of an arm
         for it in [k, *chain]:
             arm = self.n.of["arms"][it]
             if arm and any(norm(e[1]) == f for e in arm[2]):
@@ -206,8 +213,11 @@ class Turner:
                 if not parts:
                     return value
                 f = parts.pop(0)
+                if not parts and norm(f) not in START:
+                    it = self.step(k, f)
+                    return ("step", "c." + self.n.places[it][2][1], k, f)
                 if norm(f) in START:
-                    text = "c." + f.replace("type-inv", "type_inv")
+                    text = "c." + f.replace("-", "_")
                     pre = (self.n.of.get("pre") or {}).get("fields") or []
                     value = ("prod", text, pre) if f == "requires" and len(pre) > 1 else ("text", text)
                     continue
@@ -235,6 +245,9 @@ class Turner:
                         value = self.clauses(it, text, word)
                 else:
                     value = ("text", text)
+                continue
+            if kind == "step":
+                value, parts = ("place", value[2]), [value[3], *parts]
                 continue
             if kind in ("new", "prod"):
                 names, text = value[2], value[1]
@@ -344,34 +357,34 @@ class Turner:
             before = out[-1][-1:] if out else ""
             parts = t.split(".")
             if before != "." and not t.startswith(("--", '"', "«")):
-                if parts[0] in env:
+                is_word = t == "at" and env.get("at", " ")[0] in ("place", "new", "prod") and skip(i + 1) < len(tokens) and tokens[skip(i + 1)] != "in"
+                if parts[0] in env and not is_word:
                     value = self.go(env[parts[0]], parts[1:])
                     if value[0] == "place":
                         out.append("c")
-                        if not self.quiet_place(tokens, i):
-                            self.problems.append(f"a record is passed on: {t}")
+                        self.problems.append(f"a record is passed on: {t}")
                     else:
                         out.append(value[1])
                     i += 1
                     continue
-                if parts[0] in self.lemmas and parts[0] not in self.shadowed:
+                label = skip(i + 1) < len(tokens) and tokens[skip(i + 1)] in ("=", ":") and "".join(out).rstrip()[-1:] in ("{", ";")
+                if parts[0] in self.lemmas and not label:
                     j = skip(i + 1)
+                    end = j + 1
+                    if j + 2 < len(tokens) and tokens[j] == "(" and tokens[skip(j + 1)].split(".")[0] in env and tokens[skip(skip(j + 1) + 1)] == ")":
+                        end = skip(skip(j + 1) + 1) + 1
+                        j = skip(j + 1)
                     p = tokens[j].split(".") if j < len(tokens) else [""]
                     if p[0] in env:
                         value = self.go(env[p[0]], p[1:])
                         if value[0] == "place":
                             out.append(self.lemma(parts[0], value[1]))
-                            i = j + 1
+                            i = end
                             continue
                     self.problems.append(f"a lemma of a place, `{t}`, is not applied to a place")
             out.append(t)
             i += 1
         return "".join(out)
-
-    shadowed = ()
-
-    def quiet_place(self, tokens, i):
-        return False
 
     def lemma(self, name, k):
         """Returns the text that stands for the lemma of a place at the place k."""
@@ -432,7 +445,9 @@ def flat(body):
             now = ""
             continue
         now += t
-    return parts + [now.strip()] if parts else None
+    if parts and now.strip():
+        parts.append(now.strip())
+    return parts if len(parts) > 1 else None
 
 
 def parts_of(body, n):
@@ -458,6 +473,27 @@ def as_record(body, fields):
         parts = parts_of(tail, len(fields))
         if parts:
             return head + lead + "record { " + "; ".join(f"{f} = {p}" for f, p in zip(fields, parts)) + " }"
+    return None
+
+
+TACTIC = re.compile(r"(omega|search|grind|cc)\b")
+
+
+def as_fields(body, fields):
+    """Turns a body that proves all clauses at once into a record, by its parts, or once for each clause where it is a tactic's."""
+    ends = [m.end() for m in re.finditer(r"(?<=\sin)\s+", body)]
+    # the last `in` outside brackets
+    depth, at = 0, 0
+    for m in TOKEN.finditer(body):
+        t = m[0]
+        depth += (t in ("(", "[", "{")) - (t in (")", "]", "}"))
+        if t == "in" and not depth and m.end() in {e - len(re.match(r"\s*", body[m.end() :])[0]) for e in ends}:
+            at = m.end() + len(re.match(r"\s*", body[m.end() :])[0])
+    head, tail = body[:at], body[at:].strip()
+    if TACTIC.match(tail):
+        return head + "record { " + "; ".join(f"{f} = {tail}" for f in fields) + " }"
+    if len(fields) == 2 and not tail.startswith(("rw ", "(", "elim ", "λ")):
+        return head + f"let both = {tail} in record {{ {fields[0]} = both.0; {fields[1]} = both.1 }}"
     return None
 
 
@@ -511,6 +547,53 @@ def uses_for(uses, text, extra=""):
 # ---------------------------------------------------------------- a file
 
 
+def past_modules(blocks):
+    """Writes out, in the rest of the file, the paths that a module over a place only names."""
+    return [it for b in blocks for it in over_a_place(b)]
+
+
+def over_a_place(b):
+    """Returns the items of `module _ (c : tie.P) where`, each with its own parameter."""
+    m = re.match(r"module _ \((%s) : (tie\.[^()]*)\) where\n" % W, b.body) if b.kind == "module" else None
+    if not m:
+        return [b]
+    param, place = m[1], m[2]
+    inner = "\n".join(it[2:] if it.startswith("  ") else it for it in b.body[m.end() :].split("\n"))
+    _, _, items = split(inner)
+    paths = {}
+    for it in items:
+        args, body = it.clause() or ([], "") if it.kind == "item" else ([], "")
+        if "abbrev" in it.mods and not args and re.fullmatch(W + r"(\.%s)*" % W, body.strip()):
+            head, dot, rest = body.strip().partition(".")
+            paths[it.names[0]] = paths.get(head, head) + dot + rest
+    items = [it for it in items if not set(it.names) & set(paths)]
+    own = [x for it in items for x in it.names]
+    out = []
+    for it in items:
+        if it.kind != "item":
+            return [b]
+
+        def called(text, first):
+            got, tokens = [], [x[0] for x in TOKEN.finditer(text)]
+            for k, t in enumerate(tokens):
+                head, dot, rest = t.partition(".")
+                if head in paths and not (got and got[-1].endswith(".")):
+                    t = paths[head] + dot + rest
+                elif head in own and not (got and got[-1].endswith(".")):
+                    t = f"({head} {param}){dot}{rest}"
+                got.append(t)
+            return "".join(got)
+
+        args, body = it.clause() or ([], "")
+        name = it.names[0]
+        text = f"{it.comment}\n" if it.comment else ""
+        text += f"{it.mods}{name} : ({param} : {place}) → {called(it.type.strip(), 0)}\n"
+        text += f"unfolding {it.unfolding}\n" if it.unfolding else ""
+        text += f"{name} {' '.join([param, *args])} = {called(body, 0)}"
+        out.append(Block(text))
+    return out
+
+
 def turn_file(path, crate, of, root):
     text = read(path)
     shown = os.path.relpath(path, root)
@@ -521,6 +604,7 @@ def turn_file(path, crate, of, root):
     home = f"Rattle.{crate}.proofs.{quoted}"
     line_of = lambda b: text[: text.find(b.body[:60])].count("\n") + 1
 
+    blocks = past_modules(blocks)
     lemmas, invariants, answers, locals_ = {}, [], [], []
     order = []
     for b in blocks:
@@ -535,7 +619,7 @@ def turn_file(path, crate, of, root):
             order.append(("answer", b, m[1]))
             continue
         if b.kind == "item" and "tie." in b.type:
-            m = re.match(r"\((%s) : tie\.[^()]*\) →\s+" % W, b.type) or re.match(r"()tie\.\S+(?: invariant-\S+| decreases-\S+)* →\s+", b.type)
+            m = re.match(r"\s*\((%s) : tie\.[^()]*\) →\s+" % W, b.type) or re.match(r"\s*()tie\.\S+(?: invariant-\S+| decreases-\S+)* →\s+", b.type)
             if m:
                 lemmas[b.names[0]] = (b, m[1], b.type[m.end() :])
                 continue
@@ -609,7 +693,7 @@ def turn_file(path, crate, of, root):
             left(f"{shown}:{line_of(b)}", f"`{new}`: {it}")
         asked = of["asked"].get(new) or of["asked"].get(old) or of["asked"].get(old.replace("-", "_")) or next((v for k, v in of["asked"].items() if norm(k) == norm(old)), None)
         if asked and len(asked) > 1 and "record {" not in body:
-            rec = as_record(body, asked)
+            rec = as_record(body, asked) or as_fields(body, asked)
             if rec:
                 body = rec
             else:
@@ -674,6 +758,222 @@ def turn_file(path, crate, of, root):
         write(f"{folder}/Answers.antt", lead + "\n".join(lines) + "\n\n" + code + "\n")
     os.remove(path)
     return True
+
+
+# ---------------------------------------------------------------- what a check says
+
+
+def declared(text):
+    """Returns (start, end, name) of each answer of a file."""
+    out = []
+    for m in re.finditer(r"(?m)^(?:--[^\n]*\n)*pub (\S+) : goal\.\S+\n", text):
+        end = re.compile(r"\n\n(?=\S)").search(text, m.end())
+        out.append((m.start(), end.end() if end else len(text), m[1]))
+    return out
+
+
+def check(crate, root):
+    out = subprocess.run(["rt", "check"], cwd=f"{root}/crates/{crate}", capture_output=True, text=True)
+    return out.stdout + out.stderr
+
+
+def notes_of(said, at, shown=False):
+    """Returns, by goal, what the check says of the goals of one function."""
+    every = re.findall(r"(?m)^note: `(\S+)` of (\S+) must prove: ([^\n]*)\n((?:  [^\n]*\n)*)", said)
+    return {name: goal if shown else text for name, path, goal, text in every if path.endswith(f"proofs/{at}/Answers.antt")}
+
+
+def arms_of(said, at, goal):
+    """Returns, by the join's path, its arms and their fields, as the check's notes list them for a goal."""
+    notes = notes_of(said, at)
+    out, fields, seen = {}, {}, set()
+
+    def take(name):
+        if name in seen or name not in notes:
+            return
+        seen.add(name)
+        for it in re.findall(r"as in `(\S+)` above", notes[name]):
+            take(it)
+        for path, body in re.findall(r"\| (c\.\S+)\.branch: elim \S+ \[ (.*?) \]", notes[name]):
+            out[path] = [it.split()[0] for it in body.split("|")]
+        for arm, of in re.findall(r"\|   (\S+) w: ([^\n]*)", notes[name]):
+            fields[arm] = re.findall(r"\.(%s)" % W, of)
+
+    take(goal)
+    return {path: [(arm, fields.get(arm, [])) for arm in arms] for path, arms in out.items()}
+
+
+def closing(tokens, i):
+    """Returns the place after the bracket that opens at i."""
+    depth = 0
+    for k in range(i, len(tokens)):
+        depth += (tokens[k] in ("(", "[", "{")) - (tokens[k] in (")", "]", "}"))
+        if not depth:
+            return k + 1
+    return len(tokens)
+
+
+def by_elim(text, arms, renames):
+    """Turns each `⊎_elim (λ w. ..) (λ w. ..) c.STEP.branch` into an `elim`. Returns the text and the arms that it names, or None."""
+    used = []
+
+    def arm_body(body, fields):
+        m = re.match(r"\(λ (%s)\. (.*)\)\Z" % W, body, re.S)
+        if not m:
+            return None
+        w, term = m[1], m[2]
+        tests = [it for it in fields if not it.endswith("-is")]
+        values = [it for it in fields if it.endswith("-is")]
+        refs = sorted(set(re.findall(r"(?<![\w.])%s\.(\d+)\.(?:taken|left|true|false)" % re.escape(w), term)), key=int)
+        only = sorted(set(re.findall(r"(?<![\w.])%s\.(\d+)(?![.\d])" % re.escape(w), term)), key=int)
+        # the last tests are the ones that a proof cites, and the values come last
+        def test(k):
+            return tests[k] if k < len(tests) else None
+
+        def word(step, it):
+            it = {"taken": "true", "left": "false"}.get(it, it)
+            return renames.get(step, {}).get(it, it)
+
+        def one(m):
+            number, rest = m[1], m[2]
+            if number is None:
+                step = tests[0] if tests else None
+            else:
+                k = refs.index(number)
+                # by position where all that is counted are tests
+                at = int(number)
+                step = tests[at] if at < len(tests) and len(refs) != 1 else test(k if at else 0)
+                if at and len(refs) == 1 and tests:
+                    step = tests[-1]
+            return f"w.{step}.{word(step, rest)}" if step else m[0]
+
+        term = re.sub(r"(?<![\w.])%s\.(?:(\d+)\.)?(taken|left|true|false)\b" % re.escape(w), one, term)
+        for k, number in enumerate(only):
+            if k < len(values):
+                term = re.sub(r"(?<![\w.])%s\.%s(?![.\d])" % (re.escape(w), number), f"w.{values[k]}", term)
+        if tests:
+            term = re.sub(r"(?<![\w.])%s\.(\d+)\.(ensures|result)" % re.escape(w), lambda m: next((f"w.{it}.{m[2]}" for it in fields if not it.startswith(("if-", "in")) and not it.endswith("-is")), m[0]), term)
+        return term
+
+    while True:
+        tokens = [m[0] for m in TOKEN.finditer(text)]
+        at = next((k for k, t in enumerate(tokens) if t == "⊎_elim"), None)
+        if at is None:
+            return text, used
+        bodies, k = [], at
+        start = at
+
+        def arms_at(k):
+            """Reads two arms after a ⊎_elim at k; returns their texts and where they end."""
+            got, j = [], k + 1
+            while len(got) < 2:
+                while j < len(tokens) and tokens[j].isspace():
+                    j += 1
+                if j >= len(tokens) or tokens[j] != "(":
+                    return None, j
+                e = closing(tokens, j)
+                inner = [x for x in range(j + 1, e) if not tokens[x].isspace()]
+                if inner and tokens[inner[0]] == "⊎_elim":
+                    more, _ = arms_at(inner[0])
+                    if more is None:
+                        return None, j
+                    got += more
+                else:
+                    got.append("".join(tokens[j:e]))
+                j = e
+                if len(got) > 2:
+                    break
+            return got, j
+
+        got, j = arms_at(at)
+        while j < len(tokens) and tokens[j].isspace():
+            j += 1
+        path = tokens[j] if j < len(tokens) else ""
+        if got is None or not re.search(r"\.branch(-raw)?$", path):
+            return None
+        now = arms.get(re.sub(r"\.branch(-raw)?$", "", path))
+        if not now or len(now) != len(got):
+            return None
+        parts = []
+        for body, (arm, fields) in zip(got, now):
+            term = arm_body(body, fields)
+            if term is None:
+                return None
+            parts.append(f"{arm} w ↦ {term}")
+            used.append(arm)
+        new = "elim " + re.sub(r"-raw$", "", path) + " [ " + " | ".join(parts) + " ]"
+        text = "".join(tokens[:start]) + new + "".join(tokens[j + 1 :])
+
+
+def prune(crate, root, given=None):
+    os.makedirs("/tmp/open", exist_ok=True)
+    taken, tried, stuck, said = {}, set(), [], ""
+    names = None
+    for _ in range(6):
+        said = check(crate, root)
+        found = re.findall(r"(?m)^\./proofs/(\S+)/Answers\.antt:(\d+):(\d+): error: `([^`]+)`: ([^\n]*(?:\n  [^\n]*){0,3})", said)
+        moved = False
+        for at, line, _col, name, why in sorted(set(found)):
+            path = f"{root}/crates/{crate}/proofs/{at}/Answers.antt"
+            text = read(path)
+            it = next((d for d in declared(text) if d[2] == name), None)
+            if it is None:
+                stuck.append(f"{path}:{line}: `{name}` (a lemma of the file): {why}")
+                continue
+            if (at, name) not in taken:
+                taken[at, name] = (text[it[0] : it[1]].strip(), why)
+            write(path, text[: it[0]] + text[it[1] :])
+            moved = True
+        if moved:
+            continue
+        # what stays open, and has an old answer with a ⊎_elim, is written again with the arms that the check prints
+        opened = set()
+        for at, goals in re.findall(r"(?m)^fn \S+: no proof: expected answers in \./proofs/(\S+)/Answers\.antt; `search` did not prove ([^\n]*)", said):
+            opened |= {(at, it) for it in re.findall(r"`([^`]+)`", goals)}
+        for key in sorted(opened & set(taken) - tried):
+            tried.add(key)
+            at, name = key
+            old = taken[key][0]
+            if "⊎_elim" not in old:
+                continue
+            if names is None:
+                names = names_of(crate, root, given) or {}
+            of = names.get(f"Rattle-{crate}-proofs.{at.replace('/', '.')}.Lts") or {"places": []}
+            renames = {p[2][1]: dict(p[4]) for p in of["places"] if p[4]}
+            got = by_elim(old, arms_of(said, at, name), renames)
+            if got is None:
+                continue
+            new, arms = got
+            path = f"{root}/crates/{crate}/proofs/{at}/Answers.antt"
+            home = f"Rattle.{crate}.proofs.{at.replace('/', '.')}"
+            text = read(path)
+            text = text.replace(f"use {home}.Goals as goal\n", f"use {home}.Goals as goal\nuse {home}.Goals.{{{', '.join(dict.fromkeys(arms))}}}\n", 1)
+            write(path, text.rstrip() + "\n\n" + new + "\n")
+            moved = True
+        if not moved:
+            break
+    for path in {f"{root}/crates/{crate}/proofs/{at}/Answers.antt" for at, _ in taken}:
+        if not declared(read(path)):
+            os.remove(path)
+    state = "proved" if re.search(r"(?m)^logic=proved", said) else "not proved"
+    functions = re.findall(r"(?m)^fn (\S+): (proved|not proved|no proof[^\n]*|could not tell)", said)
+    lines = [f"{crate}: {state}; {sum(b == 'proved' for _, b in functions)} of {len(functions)} functions proved"]
+    lines += [f"fn {a}: {b[:300]}" for a, b in functions if b != "proved"]
+    for at, goals in re.findall(r"(?m)^fn \S+: no proof: expected answers in \./proofs/(\S+)/Answers\.antt; `search` did not prove ([^\n]*)", said):
+        for name in re.findall(r"`([^`]+)`", goals):
+            lines += ["", f"== crates/{crate}/proofs/{at}/Answers.antt: {name}"]
+            notes = notes_of(said, at, True)
+            if name in notes:
+                lines.append(f"must prove: {notes[name]}")
+            if (at, name) in taken:
+                lines += ["old answer:", taken[at, name][0], f"which failed: {taken[at, name][1]}"]
+    lines += ["", *dict.fromkeys(stuck)]
+    others = re.findall(r"(?m)^\S+:\d+:\d+: error: [^\n]*", said)
+    lines += ["", "errors of the last check:", *others] if others else []
+    write(f"/tmp/open/{crate}.txt", "\n".join(lines) + "\n")
+    print(lines[0] + f"; see /tmp/open/{crate}.txt")
+    for (at, name), (_, why) in taken.items():
+        print(f"  taken out: {at}: {name}: {one_line(why)[:160]}")
 
 
 def names_of(crate, root, given):
@@ -744,7 +1044,7 @@ def main():
         sys.exit(__doc__)
     if args[0] == "--prune":
         for it in args[1:]:
-            prune(it, root)
+            prune(it, root, given)
         return
     for it in args:
         turn(it, root, given)

@@ -10,29 +10,28 @@ use Rattle.expansion.specs.Table.{capped, size_at}
 use Rattle.expansion.proofs.Lengths.{node-size, walk_count, walk_counted}
 use Rattle.expansion.proofs.walk_len.Goals as goal
 
--- what the turn's node is counted as
-size :
-    (c : tie.After-node-len invariant-loop decreases-loop) →
-    let at = c.before.before.before.before.before in
-    let a = at.before.before.before.before.args in
-    c.node-len.result ≡ capped (length (node_in a.rules.now a.steps.now a.c a.ahead (step_at a.steps.now (a.first + at.loop.k))))
-size c =
-    let at = c.before.before.before.before.before in
-    let s = at.before.before.before.before in
-    let a = s.args in
-    c.node-len.ensures
-    ∙ ap (λ (i : ℕ). size_at a.lens.now (find_from (keyed i (step_at a.steps.now (a.first + at.loop.k)).len) a.ahead (drop a.ahead (rules_of a.c.rules a.rules.now)))) c.before.before.id.ensures
-    ∙ node-size a.rules.now a.steps.now a.c a.lens.now a.ahead (step_at a.steps.now (a.first + at.loop.k)) s.requires.0
-
 pub overflow_add-total : goal.overflow_add-total
-overflow_add-total c = omega (arith, size c)
+overflow_add-total c =
+    let size : c.node_len.result ≡ capped (length (node_in c.args.rules.now c.args.steps.now c.args.c c.args.ahead (step_at c.args.steps.now (c.args.first + c.loop-k.k)))) =
+      let a = c.args in
+      c.node_len.ensures
+      ∙ ap (λ (i : ℕ). size_at a.lens.now (find_from (keyed i (step_at a.steps.now (a.first + c.loop-k.k)).len) a.ahead (drop a.ahead (rules_of a.c.rules a.rules.now)))) c.id.ensures
+      ∙ node-size a.rules.now a.steps.now a.c a.lens.now a.ahead (step_at a.steps.now (a.first + c.loop-k.k)) c.requires.0
+    in
+    omega (arith, size)
 
 pub loop-k-preserved : goal.loop-k-preserved
 loop-k-preserved c =
+    let size : c.node_len.result ≡ capped (length (node_in c.args.rules.now c.args.steps.now c.args.c c.args.ahead (step_at c.args.steps.now (c.args.first + c.loop-k.k)))) =
+      let a = c.args in
+      c.node_len.ensures
+      ∙ ap (λ (i : ℕ). size_at a.lens.now (find_from (keyed i (step_at a.steps.now (a.first + c.loop-k.k)).len) a.ahead (drop a.ahead (rules_of a.c.rules a.rules.now)))) c.id.ensures
+      ∙ node-size a.rules.now a.steps.now a.c a.lens.now a.ahead (step_at a.steps.now (a.first + c.loop-k.k)) c.requires.0
+    in
     let a = c.args in (
-      omega arith,
-      omega (arith, c.capped-total.ensures),
-      rw c.capped-total.ensures (walk_count a.rules.now a.steps.now a.c a.ahead a.first a.n c.requires.1 c.loop-k.k c.loop-k.total c.node_len.result c.loop-k-test.true (size c) c.loop-k.invariant.2),
+    omega arith,
+    omega (arith, c.capped-total.ensures),
+    rw c.capped-total.ensures (walk_count a.rules.now a.steps.now a.c a.ahead a.first a.n c.requires.1 c.loop-k.k c.loop-k.total c.node_len.result c.loop-k-test.true (size) c.loop-k.invariant.2),
     )
 
 pub returns : goal.returns

@@ -2,6 +2,5 @@ use mathlib.Core.Path.{ap₂}
 use Rattle.handle.specs.Edge.{edge}
 use Rattle.fields.proofs.edge_of.Goals as goal
 
--- NOT TURNED
-returns : tie.Need-returns
-returns c = ap₂ edge c.before.end_of_lem.ensures c.end-of2.ensures
+pub returns : goal.returns
+returns c = ap₂ edge c.end_of-u.ensures c.end_of-v.ensures

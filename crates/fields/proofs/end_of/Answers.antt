@@ -17,10 +17,9 @@ forward-requires c = omega (arith, c.name_id-id.ensures, id_range c.field.result
 
 pub returns-then-sign-eq0 : goal.returns-then-sign-eq0
 returns-then-sign-eq0 c =
-    let sign = c.field-sign in
     c.forward.ensures
     ∙ ap₂ pack (c.name_id-id.ensures ∙ ap name_id c.field.ensures)
-    (no_sign sign.result.now c.if-sign-eq0.true ∙ ap (λ (f : List ℕ). sign_dir (get_or f 0 0)) sign.ensures)
+    (no_sign c.field-sign.result.now c.if-sign-eq0.true ∙ ap (λ (f : List ℕ). sign_dir (get_or f 0 0)) c.field-sign.ensures)
 
 pub pack-requires : goal.pack-requires
 pack-requires c =
@@ -30,7 +29,6 @@ pack-requires c =
 
 pub returns : goal.returns
 returns c =
-    let sign = c.field-sign in
     c.pack.ensures
     ∙ ap₂ pack (c.name_id-id.ensures ∙ ap name_id c.field.ensures)
-    (c.sign_dir.ensures ∙ ap (λ (f : List ℕ). sign_dir (get_or f 0 0)) sign.ensures)
+    (c.sign_dir.ensures ∙ ap (λ (f : List ℕ). sign_dir (get_or f 0 0)) c.field-sign.ensures)

@@ -6,11 +6,9 @@ use Rattle.fields.proofs.unshaped.Goals as goal
 pub returns-then-not-has_fields : goal.returns-then-not-has_fields
 returns-then-not-has_fields c =
     let a = c.args in
-    let some = c.has_fields in
-    rw (fewer (length (fields_of a.line.now)) a.n some.result some.ensures, c.if-not-has_fields.true-raw)
+    rw (fewer (length (fields_of a.line.now)) a.n c.has_fields.result c.has_fields.ensures, c.if-not-has_fields.true-raw)
 
 pub returns-else-not-has_fields : goal.returns-else-not-has_fields
 returns-else-not-has_fields c =
     let a = c.args in
-    let some = c.has_fields in
-    rw (fewer (length (fields_of a.line.now)) a.n some.result some.ensures, c.if-not-has_fields.false-raw) c.has_return.ensures
+    rw (fewer (length (fields_of a.line.now)) a.n c.has_fields.result c.has_fields.ensures, c.if-not-has_fields.false-raw) c.has_return.ensures

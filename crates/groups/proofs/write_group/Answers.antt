@@ -82,13 +82,14 @@ place-at-requires c =
     let a = c.args in
     omega (arith, c.direction-direction.ensures, (one ((of_key (graph_of c.args.nodes.now c.args.text.now c.args.links.now c.args.c) c.args.v c.args.u)) a.base a.members.now c.loop-c.members c.loop-c.low c.loop-c.high c.loop-c.above c.next_of_key-w.result c.loop-c.invariant (step)).room)
 
--- NOT TURNED
-mul-members : tie.Need-overflow-mul-members invariant-loop decreases-loop
-mul-members c =
-    let r = c.before.before in
-    let at = r.before.before in
-    let a = at.before.before.before.before.before.before.args in
-    omega (arith, inside (of r) a.base a.members.now at.loop.members at.loop.low at.loop.high at.loop.above r.before.next-of-key.result at.loop.invariant (step r) c.before.direction.result c.place.result c.before.direction.ensures c.place.ensures, at.loop.invariant.size, at.before.before.before.before.before.before.requires.1, at.before.before.before.before.before.before.well-formed)
+pub offset_bounds-members-at : goal.offset_bounds-members-at
+offset_bounds-members-at c =
+    let step : Step c.loop-c.above ((of_key (graph_of c.args.nodes.now c.args.text.now c.args.links.now c.args.c) c.args.v c.args.u)) c.next_of_key-w.result =
+      let a = c.args in
+      next-step c.loop-c.above c.next_of_key-w.result (key_sorted (graph_of a.nodes.now a.text.now a.links.now a.c) a.v a.u) c.next_of_key-w.ensures c.if-w-eq0.false
+    in
+    let a = c.args in
+    omega (arith, inside ((of_key (graph_of c.args.nodes.now c.args.text.now c.args.links.now c.args.c) c.args.v c.args.u)) a.base a.members.now c.loop-c.members c.loop-c.low c.loop-c.high c.loop-c.above c.next_of_key-w.result c.loop-c.invariant (step) c.direction-direction.result c.place-at.result c.direction-direction.ensures c.place-at.ensures, c.loop-c.invariant.size, c.requires.u_in_bounds, c.well_formed)
 
 pub bounds-members-at : goal.bounds-members-at
 bounds-members-at c =
@@ -108,13 +109,14 @@ overflow_sub-low c =
     let a = c.args in
     omega (arith, c.direction-direction.ensures, (one ((of_key (graph_of c.args.nodes.now c.args.text.now c.args.links.now c.args.c) c.args.v c.args.u)) a.base a.members.now c.loop-c.members c.loop-c.low c.loop-c.high c.loop-c.above c.next_of_key-w.result c.loop-c.invariant (step)).room)
 
--- NOT TURNED
-add-high : tie.Need-overflow-add-high invariant-loop decreases-loop
-add-high c =
-    let r = c.before.before in
-    let at = r.before.before in
-    let a = at.before.before.before.before.before.before.args in
-    omega (arith, (next (of r) a.base a.members.now at.loop.members at.loop.low at.loop.high at.loop.above r.before.next-of-key.result at.loop.invariant (step r) c.before.direction.result c.place.result c.before.direction.ensures c.place.ensures).at_high, at.before.before.before.before.before.before.requires.1, at.before.before.before.before.before.before.well-formed)
+pub overflow_add-high : goal.overflow_add-high
+overflow_add-high c =
+    let step : Step c.loop-c.above ((of_key (graph_of c.args.nodes.now c.args.text.now c.args.links.now c.args.c) c.args.v c.args.u)) c.next_of_key-w.result =
+      let a = c.args in
+      next-step c.loop-c.above c.next_of_key-w.result (key_sorted (graph_of a.nodes.now a.text.now a.links.now a.c) a.v a.u) c.next_of_key-w.ensures c.if-w-eq0.false
+    in
+    let a = c.args in
+    omega (arith, (next ((of_key (graph_of c.args.nodes.now c.args.text.now c.args.links.now c.args.c) c.args.v c.args.u)) a.base a.members.now c.loop-c.members c.loop-c.low c.loop-c.high c.loop-c.above c.next_of_key-w.result c.loop-c.invariant (step) c.direction-direction.result c.place-at.result c.direction-direction.ensures c.place-at.ensures).at_high, c.requires.u_in_bounds, c.well_formed)
 
 pub loop-c-smaller : goal.loop-c-smaller
 loop-c-smaller c =

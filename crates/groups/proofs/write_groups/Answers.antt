@@ -97,11 +97,7 @@ pub returns-then-u-eq0 : goal.returns-then-u-eq0
 returns-then-u-eq0 c =
     let a = c.args in
     let g : Graph = graph_of a.nodes.now a.text.now a.links.now a.c in
-    let l = c.loop-c in
-    let z = next_end l.above (heads_of g a.v) c.next_head-u.result c.next_head-u.ensures c.if-u-eq0.true in (
-      members_done g a.v a.members.now a.ends.now l.members l.ends l.n l.at l.above l.invariant z c.requires.v_in_bounds.0,
-      ends-done g a.v a.members.now a.ends.now l.members l.ends l.n l.at l.above l.invariant z c.requires.v_in_bounds.1,
-    )
+    let z = next_end c.loop-c.above (heads_of g a.v) c.next_head-u.result c.next_head-u.ensures c.if-u-eq0.true in record { members_after = members_done g a.v a.members.now a.ends.now c.loop-c.members c.loop-c.ends c.loop-c.n c.loop-c.at c.loop-c.above c.loop-c.invariant z c.requires.v_in_bounds.0; ends_after = ends-done g a.v a.members.now a.ends.now c.loop-c.members c.loop-c.ends c.loop-c.n c.loop-c.at c.loop-c.above c.loop-c.invariant z c.requires.v_in_bounds.1 }
 
 pub write_group-at-requires : goal.write_group-at-requires
 write_group-at-requires c =
@@ -109,40 +105,39 @@ write_group-at-requires c =
       let a = c.args in
       next-step c.loop-c.above c.next_head-u.result (heads_sorted (graph_of a.nodes.now a.text.now a.links.now a.c) a.v) c.next_head-u.ensures c.if-u-eq0.false
     in
-    let l = c.loop-c in
     let a = c.args in
     let g : Graph = graph_of a.nodes.now a.text.now a.links.now a.c in
-    record { c_value = c.requires.c_value; u_in_bounds = omega (arith, fits g a.v a.members.now a.ends.now l.members l.ends l.n l.at l.above l.invariant c.next_head-u.result (step), l.invariant.member_room, c.requires.v_in_bounds.0) }
+    record { c_value = c.requires.c_value; u_in_bounds = omega (arith, fits g a.v a.members.now a.ends.now c.loop-c.members c.loop-c.ends c.loop-c.n c.loop-c.at c.loop-c.above c.loop-c.invariant c.next_head-u.result (step), c.loop-c.invariant.member_room, c.requires.v_in_bounds.0) }
 
--- NOT TURNED
-mul-ends : tie.Need-overflow-mul-ends invariant-loop decreases-loop
-mul-ends c =
-    let r = c.before.before.before.before in
-    let l = r.before.before.loop in
-    let s = r.before.before.before.before.before.before.before.before in
-    let a = s.args in
+pub offset_bounds-ends-n : goal.offset_bounds-ends-n
+offset_bounds-ends-n c =
+    let step : Step c.loop-c.above (heads_of (graph_of c.args.nodes.now c.args.text.now c.args.links.now c.args.c) c.args.v) c.next_head-u.result =
+      let a = c.args in
+      next-step c.loop-c.above c.next_head-u.result (heads_sorted (graph_of a.nodes.now a.text.now a.links.now a.c) a.v) c.next_head-u.ensures c.if-u-eq0.false
+    in
+    let a = c.args in
     let g : Graph = graph_of a.nodes.now a.text.now a.links.now a.c in
-    omega (arith, free g a.v a.members.now a.ends.now l.members l.ends l.n l.at l.above l.invariant r.before.next-head.result (step r), l.invariant.end_room, s.requires.1.1, s.well-formed)
+    omega (arith, free g a.v a.members.now a.ends.now c.loop-c.members c.loop-c.ends c.loop-c.n c.loop-c.at c.loop-c.above c.loop-c.invariant c.next_head-u.result (step), c.loop-c.invariant.end_room, c.requires.v_in_bounds.1, c.well_formed)
 
--- NOT TURNED
-slice-write-ends : tie.Need-slice-write-ends invariant-loop decreases-loop
-slice-write-ends c =
-    let r = c.before.before.before.before in
-    let l = r.before.before.loop in
-    let s = r.before.before.before.before.before.before.before.before in
-    let a = s.args in
+pub bounds-ends-n : goal.bounds-ends-n
+bounds-ends-n c =
+    let step : Step c.loop-c.above (heads_of (graph_of c.args.nodes.now c.args.text.now c.args.links.now c.args.c) c.args.v) c.next_head-u.result =
+      let a = c.args in
+      next-step c.loop-c.above c.next_head-u.result (heads_sorted (graph_of a.nodes.now a.text.now a.links.now a.c) a.v) c.next_head-u.ensures c.if-u-eq0.false
+    in
+    let a = c.args in
     let g : Graph = graph_of a.nodes.now a.text.now a.links.now a.c in
-    omega (arith, free g a.v a.members.now a.ends.now l.members l.ends l.n l.at l.above l.invariant r.before.next-head.result (step r), l.invariant.end_room, s.requires.1.1, s.well-formed)
+    omega (arith, free g a.v a.members.now a.ends.now c.loop-c.members c.loop-c.ends c.loop-c.n c.loop-c.at c.loop-c.above c.loop-c.invariant c.next_head-u.result (step), c.loop-c.invariant.end_room, c.requires.v_in_bounds.1, c.well_formed)
 
--- NOT TURNED
-add-n : tie.Need-overflow-add-n invariant-loop decreases-loop
-add-n c =
-    let r = c.before.before.before.before in
-    let l = r.before.before.loop in
-    let s = r.before.before.before.before.before.before.before.before in
-    let a = s.args in
+pub overflow_add-n : goal.overflow_add-n
+overflow_add-n c =
+    let step : Step c.loop-c.above (heads_of (graph_of c.args.nodes.now c.args.text.now c.args.links.now c.args.c) c.args.v) c.next_head-u.result =
+      let a = c.args in
+      next-step c.loop-c.above c.next_head-u.result (heads_sorted (graph_of a.nodes.now a.text.now a.links.now a.c) a.v) c.next_head-u.ensures c.if-u-eq0.false
+    in
+    let a = c.args in
     let g : Graph = graph_of a.nodes.now a.text.now a.links.now a.c in
-    omega (arith, free g a.v a.members.now a.ends.now l.members l.ends l.n l.at l.above l.invariant r.before.next-head.result (step r), l.invariant.end_room, s.requires.1.1, s.well-formed)
+    omega (arith, free g a.v a.members.now a.ends.now c.loop-c.members c.loop-c.ends c.loop-c.n c.loop-c.at c.loop-c.above c.loop-c.invariant c.next_head-u.result (step), c.loop-c.invariant.end_room, c.requires.v_in_bounds.1, c.well_formed)
 
 pub loop-c-smaller : goal.loop-c-smaller
 loop-c-smaller c =
@@ -158,7 +153,6 @@ loop-c-preserved c =
       let a = c.args in
       next-step c.loop-c.above c.next_head-u.result (heads_sorted (graph_of a.nodes.now a.text.now a.links.now a.c) a.v) c.next_head-u.ensures c.if-u-eq0.false
     in
-    let l = c.loop-c in
     let a = c.args in
     let g : Graph = graph_of a.nodes.now a.text.now a.links.now a.c in
-    next g a.v a.members.now a.ends.now l.members l.ends l.n l.at l.above l.invariant c.next_head-u.result (step) _ c.write_group-at.result c.write_group-at.ensures
+    next g a.v a.members.now a.ends.now c.loop-c.members c.loop-c.ends c.loop-c.n c.loop-c.at c.loop-c.above c.loop-c.invariant c.next_head-u.result (step) _ c.write_group-at.result c.write_group-at.ensures

@@ -53,7 +53,7 @@ loop-i-init c =
 
 pub later_links-requires : goal.later_links-requires
 later_links-requires c =
-    let met : Met c.args.p (nodes_of c.args.node-count c.args.nodes.now) c.args.x c.args.fresh c.args.links.now c.args.count (map handle c.args.members.now) c.loop-i.links c.loop-i.n c.loop-i.next c.loop-i.i (handle (get_or c.args.members.now c.loop-i.i 0)) c.is_long-long.result =
+    let met : Met c.args.p (nodes_of c.args.node_count c.args.nodes.now) c.args.x c.args.fresh c.args.links.now c.args.count (map handle c.args.members.now) c.loop-i.links c.loop-i.n c.loop-i.next c.loop-i.i (handle (get_or c.args.members.now c.loop-i.i 0)) c.is_long-long.result =
       record { inv = c.loop-i.invariant; front = left_member c.args.members.now c.loop-i.i (omega arith); long_is = c.is_long-long.ensures }
     in
     let k = met in
@@ -61,7 +61,7 @@ later_links-requires c =
 
 pub returns-in_default : goal.returns-in_default
 returns-in_default c =
-    let met : Met c.args.p (nodes_of c.args.node-count c.args.nodes.now) c.args.x c.args.fresh c.args.links.now c.args.count (map handle c.args.members.now) c.loop-i.links c.loop-i.n c.loop-i.next c.loop-i.i (handle (get_or c.args.members.now c.loop-i.i 0)) c.is_long-long.result =
+    let met : Met c.args.p (nodes_of c.args.node_count c.args.nodes.now) c.args.x c.args.fresh c.args.links.now c.args.count (map handle c.args.members.now) c.loop-i.links c.loop-i.n c.loop-i.next c.loop-i.i (handle (get_or c.args.members.now c.loop-i.i 0)) c.is_long-long.result =
       record { inv = c.loop-i.invariant; front = left_member c.args.members.now c.loop-i.i (omega arith); long_is = c.is_long-long.ensures }
     in
     let k = met in
@@ -69,14 +69,14 @@ returns-in_default c =
 
 pub fresh_after-next-requires : goal.fresh_after-next-requires
 fresh_after-next-requires c =
-    let met : Met c.args.p (nodes_of c.args.node-count c.args.nodes.now) c.args.x c.args.fresh c.args.links.now c.args.count (map handle c.args.members.now) c.loop-i.links c.loop-i.n c.loop-i.next c.loop-i.i (handle (get_or c.args.members.now c.loop-i.i 0)) c.is_long-long.result =
+    let met : Met c.args.p (nodes_of c.args.node_count c.args.nodes.now) c.args.x c.args.fresh c.args.links.now c.args.count (map handle c.args.members.now) c.loop-i.links c.loop-i.n c.loop-i.next c.loop-i.i (handle (get_or c.args.members.now c.loop-i.i 0)) c.is_long-long.result =
       record { inv = c.loop-i.invariant; front = left_member c.args.members.now c.loop-i.i (omega arith); long_is = c.is_long-long.ensures }
     in
     free (met)
 
 pub loop-i-preserved : goal.loop-i-preserved
 loop-i-preserved c =
-    let met : Met c.args.p (nodes_of c.args.node-count c.args.nodes.now) c.args.x c.args.fresh c.args.links.now c.args.count (map handle c.args.members.now) c.loop-i.links c.loop-i.n c.loop-i.next c.loop-i.i (handle (get_or c.args.members.now c.loop-i.i 0)) c.is_long-long.result =
+    let met : Met c.args.p (nodes_of c.args.node_count c.args.nodes.now) c.args.x c.args.fresh c.args.links.now c.args.count (map handle c.args.members.now) c.loop-i.links c.loop-i.n c.loop-i.next c.loop-i.i (handle (get_or c.args.members.now c.loop-i.i 0)) c.is_long-long.result =
       record { inv = c.loop-i.invariant; front = left_member c.args.members.now c.loop-i.i (omega arith); long_is = c.is_long-long.ensures }
     in
     let n = c.more-1.given in
@@ -85,4 +85,4 @@ loop-i-preserved c =
 pub returns : goal.returns
 returns c =
     let a = c.args in
-    made_as c.loop-i.invariant.holds (sym (ap (later_links_all a.p (nodes_of a.node-count a.nodes.now) a.x c.loop-i.next (links_of c.loop-i.n c.loop-i.links)) (no_member a.members.now c.loop-i.i (omega arith))) ∙ c.loop-i.invariant.todo)
+    made_as c.loop-i.invariant.holds (sym (ap (later_links_all a.p (nodes_of a.node_count a.nodes.now) a.x c.loop-i.next (links_of c.loop-i.n c.loop-i.links)) (no_member a.members.now c.loop-i.i (omega arith))) ∙ c.loop-i.invariant.todo)

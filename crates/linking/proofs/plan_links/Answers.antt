@@ -64,7 +64,7 @@ bounds-members-0 c = omega (arith, c.requires.plans.some, length-map c.args.memb
 
 pub alone_links-requires : goal.alone_links-requires
 alone_links-requires c =
-    let known : Known c.args.p (nodes_of c.args.node-count c.args.nodes.now) (links_of c.args.count c.args.links.now) c.args.members.now (c.largest_id-fresh.result + 1) c.is_long-long.result =
+    let known : Known c.args.p (nodes_of c.args.node_count c.args.nodes.now) (links_of c.args.count c.args.links.now) c.args.members.now (c.largest_id-fresh.result + 1) c.is_long-long.result =
       record {
       plans = c.requires.plans;
       fresh_is = ap (λ (n : ℕ). n + 1) c.largest_id-fresh.ensures;
@@ -75,7 +75,7 @@ alone_links-requires c =
 
 pub returns-in_default : goal.returns-in_default
 returns-in_default c =
-    let known : Known c.args.p (nodes_of c.args.node-count c.args.nodes.now) (links_of c.args.count c.args.links.now) c.args.members.now (c.largest_id-fresh.result + 1) c.is_long-long.result =
+    let known : Known c.args.p (nodes_of c.args.node_count c.args.nodes.now) (links_of c.args.count c.args.links.now) c.args.members.now (c.largest_id-fresh.result + 1) c.is_long-long.result =
       record {
       plans = c.requires.plans;
       fresh_is = ap (λ (n : ℕ). n + 1) c.largest_id-fresh.ensures;
@@ -87,7 +87,7 @@ returns-in_default c =
 
 pub prefix_of-x-requires : goal.prefix_of-x-requires
 prefix_of-x-requires c =
-    let known : Known c.args.p (nodes_of c.args.node-count c.args.nodes.now) (links_of c.args.count c.args.links.now) c.args.members.now (c.largest_id-fresh.result + 1) c.is_long-long.result =
+    let known : Known c.args.p (nodes_of c.args.node_count c.args.nodes.now) (links_of c.args.count c.args.links.now) c.args.members.now (c.largest_id-fresh.result + 1) c.is_long-long.result =
       record {
       plans = c.requires.plans;
       fresh_is = ap (λ (n : ℕ). n + 1) c.largest_id-fresh.ensures;
@@ -98,7 +98,7 @@ prefix_of-x-requires c =
 
 pub fresh_after-next-requires : goal.fresh_after-next-requires
 fresh_after-next-requires c =
-    let known : Known c.args.p (nodes_of c.args.node-count c.args.nodes.now) (links_of c.args.count c.args.links.now) c.args.members.now (c.largest_id-fresh.result + 1) c.is_long-long.result =
+    let known : Known c.args.p (nodes_of c.args.node_count c.args.nodes.now) (links_of c.args.count c.args.links.now) c.args.members.now (c.largest_id-fresh.result + 1) c.is_long-long.result =
       record {
       plans = c.requires.plans;
       fresh_is = ap (λ (n : ℕ). n + 1) c.largest_id-fresh.ensures;
@@ -109,7 +109,7 @@ fresh_after-next-requires c =
 
 pub later_all-requires : goal.later_all-requires
 later_all-requires c =
-    let known : Known c.args.p (nodes_of c.args.node-count c.args.nodes.now) (links_of c.args.count c.args.links.now) c.args.members.now (c.largest_id-fresh.result + 1) c.is_long-long.result =
+    let known : Known c.args.p (nodes_of c.args.node_count c.args.nodes.now) (links_of c.args.count c.args.links.now) c.args.members.now (c.largest_id-fresh.result + 1) c.is_long-long.result =
       record {
       plans = c.requires.plans;
       fresh_is = ap (λ (n : ℕ). n + 1) c.largest_id-fresh.ensures;
@@ -122,7 +122,7 @@ later_all-requires c =
 
 pub returns : goal.returns
 returns c =
-    let known : Known c.args.p (nodes_of c.args.node-count c.args.nodes.now) (links_of c.args.count c.args.links.now) c.args.members.now (c.largest_id-fresh.result + 1) c.is_long-long.result =
+    let known : Known c.args.p (nodes_of c.args.node_count c.args.nodes.now) (links_of c.args.count c.args.links.now) c.args.members.now (c.largest_id-fresh.result + 1) c.is_long-long.result =
       record {
       plans = c.requires.plans;
       fresh_is = ap (λ (n : ℕ). n + 1) c.largest_id-fresh.ensures;

@@ -14,7 +14,7 @@ append-event-requires c κs =
     let at = l.before.before.before in
     let s = at.before.before.before.before.before.before in
     let a = s.args in
-    let N = nodes_of a.node-count a.nodes.now in
+    let N = nodes_of a.node_count a.nodes.now in
     let i = at.loop.i in (
       going-room s.requires.1.1 (going_as (run-turn a.p N a.members.now i _ (omega arith) l.len_of_lem.ensures a.r.x at.loop.fresh) at.loop.invariant.1),
       omega (arith, at.loop.invariant.0, count_turn a.p N a.members.now i _ (omega arith) l.len_of_lem.ensures at.loop.fresh),
@@ -31,7 +31,7 @@ loop-again c =
     let at = l.before.before.before in
     let s = at.before.before.before.before.before.before in
     let a = s.args in
-    let N = nodes_of a.node-count a.nodes.now in
+    let N = nodes_of a.node_count a.nodes.now in
     let i = at.loop.i in (
       omega (arith, at.loop.invariant.0, c.fresh-after.ensures, count_turn a.p N a.members.now i _ (omega arith) l.len_of_lem.ensures at.loop.fresh),
       rw c.fresh-after.ensures (going-turn s.requires.1.1 (going_as (run-turn a.p N a.members.now i _ (omega arith) l.len_of_lem.ensures a.r.x at.loop.fresh) at.loop.invariant.1) v.append-event.ensures),
@@ -46,4 +46,4 @@ shape_of-steps c = c.loop-i.invariant.1.steps_size
 pub returns : goal.returns
 returns c =
     let a = c.args in
-    going_end c.requires.room_for (going_as (run_end a.p (nodes_of a.node-count a.nodes.now) a.members.now c.loop-i.i a.r.x c.loop-i.fresh (omega arith)) c.loop-i.invariant.1)
+    going_end c.requires.room_for (going_as (run_end a.p (nodes_of a.node_count a.nodes.now) a.members.now c.loop-i.i a.r.x c.loop-i.fresh (omega arith)) c.loop-i.invariant.1)

@@ -18,4 +18,4 @@ returns c =
     let s = c.before.before.before.before.before in
     let a = s.args in
     ap (λ (n : ℕ). length a.members.now - n) c.first-place.ensures
-    ∙ event-many a.p (nodes_of a.node-count a.nodes.now) a.members.now c.before.len_of_lem.result s.requires.1 c.before.len_of_lem.ensures
+    ∙ event-many a.p (nodes_of a.node_count a.nodes.now) a.members.now c.before.len_of_lem.result s.requires.1 c.before.len_of_lem.ensures

@@ -18,11 +18,11 @@ loop-again c =
     let i = at.loop.i in
     let n = at.loop.n in (
       omega (arith, c.fresh-after.ensures, one_at_most (ltb a.p c.before.len_of_lem.result) n),
-      omega (arith, c.fresh-after.ensures, count_turn a.p (nodes_of a.node-count a.nodes.now) a.members.now i _ (omega arith) c.before.len_of_lem.ensures n),
+      omega (arith, c.fresh-after.ensures, count_turn a.p (nodes_of a.node_count a.nodes.now) a.members.now i _ (omega arith) c.before.len_of_lem.ensures n),
     )
 
 pub returns : goal.returns
 returns c =
     let a = c.args in
-    let N = nodes_of a.node-count a.nodes.now in
+    let N = nodes_of a.node_count a.nodes.now in
     omega (arith, sum_end (λ (m : Handle). cond (long_by a.p N m) 1 0) (no_handle a.members.now c.loop-i.i (omega arith)))

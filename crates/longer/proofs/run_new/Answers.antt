@@ -26,7 +26,7 @@ event-new-requires : tie.Need-event-new-requires invariant-loop decreases-loop
 event-new-requires c κs =
     let at = c.before.before.before in
     let a = at.before.before.before.before.before.args in
-    (omega arith, omega (arith, at.loop.invariant.0, count_turn a.p (nodes_of a.node-count a.nodes.now) a.members.now at.loop.i _ (omega arith) c.len_of_lem.ensures at.loop.fresh))
+    (omega arith, omega (arith, at.loop.invariant.0, count_turn a.p (nodes_of a.node_count a.nodes.now) a.members.now at.loop.i _ (omega arith) c.len_of_lem.ensures at.loop.fresh))
 
 -- NOT TURNED
 returns : tie.Need-returns invariant-loop decreases-loop
@@ -34,8 +34,8 @@ returns c =
     let l = c.before in
     let at = l.before.before.before.before in
     let a = at.before.before.before.before.before.args in
-    let N = nodes_of a.node-count a.nodes.now in
-    let R = rules_of a.rule-count a.rules.now in
+    let N = nodes_of a.node_count a.nodes.now in
+    let R = rules_of a.rule_count a.rules.now in
     sym (all_fail (clear R) (run-turn a.p N a.members.now at.loop.i _ (omega arith) l.before.len_of_lem.ensures a.r.x at.loop.fresh) (sym l.event-new.ensures ∙ not-true _ c.if1.true)) ∙ at.loop.invariant.1
 
 pub fresh_after-fresh-requires : goal.fresh_after-fresh-requires
@@ -47,8 +47,8 @@ loop-again c =
     let l = c.before.before in
     let at = l.before.before.before.before in
     let a = at.before.before.before.before.before.args in
-    let N = nodes_of a.node-count a.nodes.now in
-    let R = rules_of a.rule-count a.rules.now in
+    let N = nodes_of a.node_count a.nodes.now in
+    let R = rules_of a.rule_count a.rules.now in
     let i = at.loop.i in (
       omega (arith, at.loop.invariant.0, c.fresh-after.ensures, count_turn a.p N a.members.now i _ (omega arith) l.before.len_of_lem.ensures at.loop.fresh),
       ap (λ (k : ℕ). steps_new R (later_events_by a.p N a.r.x k (drop (i + 1) (handles_of a.members.now)))) c.fresh-after.ensures
@@ -58,4 +58,4 @@ loop-again c =
 pub returns : goal.returns
 returns c =
     let a = c.args in
-    sym (ap (steps_new (rules_of a.rule-count a.rules.now)) (run_end a.p (nodes_of a.node-count a.nodes.now) a.members.now c.loop-i.i a.r.x c.loop-i.fresh (omega arith))) ∙ c.loop-i.invariant.1
+    sym (ap (steps_new (rules_of a.rule_count a.rules.now)) (run_end a.p (nodes_of a.node_count a.nodes.now) a.members.now c.loop-i.i a.r.x c.loop-i.fresh (omega arith))) ∙ c.loop-i.invariant.1

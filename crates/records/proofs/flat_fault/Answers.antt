@@ -15,7 +15,7 @@ module _ (c : tie.After-in-range) where
   new = let a = c.before.before.before.args in graph_of a.nodes.now [] a.links.now a.d
 
   abbrev last : Step
-  last = let a = c.before.before.before.args in record_of a.before-id a.before-direction a.before-len
+  last = let a = c.before.before.before.args in record_of a.before_id a.before_direction a.before_len
 
   abbrev this : Step
   this = let a = c.before.before.before.args in record_of a.id a.direction a.len

@@ -41,7 +41,7 @@ module _ (old new : Graph) (rules steps : List ℕ) (u : Used) (i : ℕ) (h : i 
 pub returns-then-not-lengths_sum : goal.returns-then-not-lengths_sum
 returns-then-not-lengths_sum c =
     let a = c.args in
-    let old = graph_of a.old-nodes.now a.old-text.now [] a.c in
+    let old = graph_of a.old_nodes.now a.old_text.now [] a.c in
     let new = graph_of a.nodes.now a.text.now [] a.d in
     let ss = steps_of a.u.steps a.steps.now in
     let r = get_or (rules_of a.u.rules a.rules.now) a.i (rule 0 0 0 0) in
@@ -53,7 +53,7 @@ spells_key-requires c = (c.requires.readable.0, c.requires.readable.1, omega ari
 pub returns-then-not-spells_key : goal.returns-then-not-spells_key
 returns-then-not-spells_key c =
     let a = c.args in
-    let old = graph_of a.old-nodes.now a.old-text.now [] a.c in
+    let old = graph_of a.old_nodes.now a.old_text.now [] a.c in
     let new = graph_of a.nodes.now a.text.now [] a.d in
     let ss = steps_of a.u.steps a.steps.now in
     let r = get_or (rules_of a.u.rules a.rules.now) a.i (rule 0 0 0 0) in
@@ -62,7 +62,7 @@ returns-then-not-spells_key c =
 pub returns : goal.returns
 returns c =
     let a = c.args in
-    let old = graph_of a.old-nodes.now a.old-text.now [] a.c in
+    let old = graph_of a.old_nodes.now a.old_text.now [] a.c in
     let new = graph_of a.nodes.now a.text.now [] a.d in
     let ss = steps_of a.u.steps a.steps.now in
     let r = get_or (rules_of a.u.rules a.rules.now) a.i (rule 0 0 0 0) in

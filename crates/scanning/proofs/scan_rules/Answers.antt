@@ -97,7 +97,7 @@ overflow_add-first-in-loop-j c =
       (table-room a.rules.now a.steps.now a.u c.requires.d_value.1, table-inside a.rules.now a.steps.now a.u c.requires.d_value.1 c.scan.i (omega arith))
     in
     let a = c.args in
-    let old = graph_of a.old-nodes.now a.old-text.now [] a.c in
+    let old = graph_of a.old_nodes.now a.old_text.now [] a.c in
     let new = graph_of a.nodes.now a.text.now a.links.now a.d in
     let r = rule_at a.rules.now c.scan.i in
     omega (arith, (table).0, (table).1)
@@ -109,7 +109,7 @@ step_fault-n-requires c =
       (table-room a.rules.now a.steps.now a.u c.requires.d_value.1, table-inside a.rules.now a.steps.now a.u c.requires.d_value.1 c.scan.i (omega arith))
     in
     let a = c.args in
-    let old = graph_of a.old-nodes.now a.old-text.now [] a.c in
+    let old = graph_of a.old_nodes.now a.old_text.now [] a.c in
     let new = graph_of a.nodes.now a.text.now a.links.now a.d in
     let r = rule_at a.rules.now c.scan.i in
     let g = formed_room a.nodes.now a.text.now a.links.now a.d c.requires.d_value.0 in
@@ -132,7 +132,7 @@ loop-j-preserved c =
       ∙ ap (λ (v : Verdict). v.number) (step_text_lem a.nodes.now a.text.now a.links.now a.d (step_before a.steps.now k c.loop-j.j) (step_at a.steps.now k))
     in
     let a = c.args in
-    let old = graph_of a.old-nodes.now a.old-text.now [] a.c in
+    let old = graph_of a.old_nodes.now a.old_text.now [] a.c in
     let new = graph_of a.nodes.now a.text.now a.links.now a.d in
     let r = rule_at a.rules.now c.scan.i in
     (omega arith, sym (step-next new a.steps.now c.scan.i r.first r.steps c.loop-j.j (omega arith) c.step_fault-n.result (numbered) c.if-n-ne0.false) ∙ c.loop-j.invariant.1)
@@ -144,7 +144,7 @@ key_fault-n-requires c =
       (table-room a.rules.now a.steps.now a.u c.requires.d_value.1, table-inside a.rules.now a.steps.now a.u c.requires.d_value.1 c.scan.i (omega arith))
     in
     let a = c.args in
-    let old = graph_of a.old-nodes.now a.old-text.now [] a.c in
+    let old = graph_of a.old_nodes.now a.old_text.now [] a.c in
     let new = graph_of a.nodes.now a.text.now a.links.now a.d in
     let r = rule_at a.rules.now c.scan.i in
     let t = (table).0 in
@@ -161,7 +161,7 @@ overflow_add-i c =
 pub scan-preserved : goal.scan-preserved
 scan-preserved c =
     let a = c.args in
-    let old = graph_of a.old-nodes.now a.old-text.now [] a.c in
+    let old = graph_of a.old_nodes.now a.old_text.now [] a.c in
     let new = graph_of a.nodes.now a.text.now a.links.now a.d in
     let r = rule_at a.rules.now c.scan.i in
     let h : c.scan.i < a.u.rules = omega arith in
@@ -170,14 +170,14 @@ scan-preserved c =
 pub returns-then-i-count : goal.returns-then-i-count
 returns-then-i-count c =
     let a = c.args in
-    let old = graph_of a.old-nodes.now a.old-text.now [] a.c in
+    let old = graph_of a.old_nodes.now a.old_text.now [] a.c in
     let new = graph_of a.nodes.now a.text.now a.links.now a.d in
     c.fault.ensures ∙ sym (rules-done old new (steps_of a.u.steps a.steps.now) a.rules.now a.u.rules c.scan.i (omega arith)) ∙ c.scan.invariant.1
 
 pub returns-then-walk-eq0 : goal.returns-then-walk-eq0
 returns-then-walk-eq0 c =
     let a = c.args in
-    let old = graph_of a.old-nodes.now a.old-text.now [] a.c in
+    let old = graph_of a.old_nodes.now a.old_text.now [] a.c in
     let new = graph_of a.nodes.now a.text.now a.links.now a.d in
     c.fault-then-walk-eq0.ensures ∙ sym (rule-empty old new (steps_of a.u.steps a.steps.now) a.rules.now a.u.rules c.scan.i (omega arith) c.if-walk-eq0.true) ∙ c.scan.invariant.1
 
@@ -190,7 +190,7 @@ returns-then-n-ne0 c =
       ∙ ap (λ (v : Verdict). v.number) (step_text_lem a.nodes.now a.text.now a.links.now a.d (step_before a.steps.now k c.loop-j.j) (step_at a.steps.now k))
     in
     let a = c.args in
-    let old = graph_of a.old-nodes.now a.old-text.now [] a.c in
+    let old = graph_of a.old_nodes.now a.old_text.now [] a.c in
     let new = graph_of a.nodes.now a.text.now a.links.now a.d in
     let r = rule_at a.rules.now c.scan.i in
     c.fault-then-n-ne0.ensures ∙ sym (rule-step old new (steps_of a.u.steps a.steps.now) a.rules.now a.u.rules c.scan.i (omega arith) c.if-walk-eq0.false c.step_fault-n.result c.loop-j.j (sym c.loop-j.invariant.1 ∙ step_stops new a.steps.now c.scan.i r.first r.steps c.loop-j.j (omega arith) c.step_fault-n.result (numbered) c.if-n-ne0.true) c.if-n-ne0.true) ∙ c.scan.invariant.1
@@ -198,7 +198,7 @@ returns-then-n-ne0 c =
 pub returns-then-n-ne0-2 : goal.returns-then-n-ne0-2
 returns-then-n-ne0-2 c =
     let a = c.args in
-    let old = graph_of a.old-nodes.now a.old-text.now [] a.c in
+    let old = graph_of a.old_nodes.now a.old_text.now [] a.c in
     let new = graph_of a.nodes.now a.text.now a.links.now a.d in
     let r = rule_at a.rules.now c.scan.i in
     let h : c.scan.i < a.u.rules = omega arith in

@@ -58,125 +58,125 @@ find_node-requires c = c.requires.0.node_room
 pub returns-in_default : goal.returns-in_default
 returns-in_default c =
     let a = c.args in
-    not-old a.old-nodes.now a.old-text.now a.c a.id a.len _ (sym c.find_node.ensures ∙ c.in_default.is)
+    not-old a.old_nodes.now a.old_text.now a.c a.id a.len _ (sym c.find_node.ensures ∙ c.in_default.is)
 
 pub overflow_mul-i : goal.overflow_mul-i
 overflow_mul-i c =
-    let found : NodeFound c.args.c.nodes c.args.old-nodes.now c.args.id c.in-At.i =
+    let found : NodeFound c.args.c.nodes c.args.old_nodes.now c.args.id c.in-At.i =
       let a = c.args in
-      node-found a.c.nodes a.old-nodes.now a.id c.in-At.i (sym c.find_node.ensures ∙ c.in-At.is)
+      node-found a.c.nodes a.old_nodes.now a.id c.in-At.i (sym c.find_node.ensures ∙ c.in-At.is)
     in
-    let room : 4 * c.args.c.nodes ≤ length c.args.old-nodes.now =
+    let room : 4 * c.args.c.nodes ≤ length c.args.old_nodes.now =
       c.requires.0.node_room
     in
     omega (arith, (found).within, room)
 
 pub overflow_add-i : goal.overflow_add-i
 overflow_add-i c =
-    let found : NodeFound c.args.c.nodes c.args.old-nodes.now c.args.id c.in-At.i =
+    let found : NodeFound c.args.c.nodes c.args.old_nodes.now c.args.id c.in-At.i =
       let a = c.args in
-      node-found a.c.nodes a.old-nodes.now a.id c.in-At.i (sym c.find_node.ensures ∙ c.in-At.is)
+      node-found a.c.nodes a.old_nodes.now a.id c.in-At.i (sym c.find_node.ensures ∙ c.in-At.is)
     in
-    let room : 4 * c.args.c.nodes ≤ length c.args.old-nodes.now =
+    let room : 4 * c.args.c.nodes ≤ length c.args.old_nodes.now =
       c.requires.0.node_room
     in
     omega (arith, (found).within, room)
 
 pub offset_bounds-old_nodes-i : goal.offset_bounds-old_nodes-i
 offset_bounds-old_nodes-i c =
-    let found : NodeFound c.args.c.nodes c.args.old-nodes.now c.args.id c.in-At.i =
+    let found : NodeFound c.args.c.nodes c.args.old_nodes.now c.args.id c.in-At.i =
       let a = c.args in
-      node-found a.c.nodes a.old-nodes.now a.id c.in-At.i (sym c.find_node.ensures ∙ c.in-At.is)
+      node-found a.c.nodes a.old_nodes.now a.id c.in-At.i (sym c.find_node.ensures ∙ c.in-At.is)
     in
-    let room : 4 * c.args.c.nodes ≤ length c.args.old-nodes.now =
+    let room : 4 * c.args.c.nodes ≤ length c.args.old_nodes.now =
       c.requires.0.node_room
     in
     omega (arith, (found).within, room)
 
 pub bounds-old_nodes-i : goal.bounds-old_nodes-i
 bounds-old_nodes-i c =
-    let found : NodeFound c.args.c.nodes c.args.old-nodes.now c.args.id c.in-At.i =
+    let found : NodeFound c.args.c.nodes c.args.old_nodes.now c.args.id c.in-At.i =
       let a = c.args in
-      node-found a.c.nodes a.old-nodes.now a.id c.in-At.i (sym c.find_node.ensures ∙ c.in-At.is)
+      node-found a.c.nodes a.old_nodes.now a.id c.in-At.i (sym c.find_node.ensures ∙ c.in-At.is)
     in
-    let room : 4 * c.args.c.nodes ≤ length c.args.old-nodes.now =
+    let room : 4 * c.args.c.nodes ≤ length c.args.old_nodes.now =
       c.requires.0.node_room
     in
     omega (arith, (found).within, room)
 
 pub returns-then-old_nodes-i : goal.returns-then-old_nodes-i
 returns-then-old_nodes-i c =
-    let found : NodeFound c.args.c.nodes c.args.old-nodes.now c.args.id c.in-At.i =
+    let found : NodeFound c.args.c.nodes c.args.old_nodes.now c.args.id c.in-At.i =
       let a = c.args in
-      node-found a.c.nodes a.old-nodes.now a.id c.in-At.i (sym c.find_node.ensures ∙ c.in-At.is)
+      node-found a.c.nodes a.old_nodes.now a.id c.in-At.i (sym c.find_node.ensures ∙ c.in-At.is)
     in
     let a = c.args in
-    other_length a.old-nodes.now a.old-text.now a.c a.id a.len _ c.in-At.i (found) c.if-old_nodes-i.true
+    other_length a.old_nodes.now a.old_text.now a.c a.id a.len _ c.in-At.i (found) c.if-old_nodes-i.true
 
 pub overflow_mul-r : goal.overflow_mul-r
 overflow_mul-r c =
-    let found : NodeFound c.args.c.nodes c.args.old-nodes.now c.args.id c.in-At.i =
+    let found : NodeFound c.args.c.nodes c.args.old_nodes.now c.args.id c.in-At.i =
       let a = c.args in
-      node-found a.c.nodes a.old-nodes.now a.id c.in-At.i (sym c.find_node.ensures ∙ c.in-At.is)
+      node-found a.c.nodes a.old_nodes.now a.id c.in-At.i (sym c.find_node.ensures ∙ c.in-At.is)
     in
-    let room : 4 * c.args.c.nodes ≤ length c.args.old-nodes.now =
+    let room : 4 * c.args.c.nodes ≤ length c.args.old_nodes.now =
       c.requires.0.node_room
     in
     omega (arith, (found).within, room)
 
 pub overflow_add-r : goal.overflow_add-r
 overflow_add-r c =
-    let found : NodeFound c.args.c.nodes c.args.old-nodes.now c.args.id c.in-At.i =
+    let found : NodeFound c.args.c.nodes c.args.old_nodes.now c.args.id c.in-At.i =
       let a = c.args in
-      node-found a.c.nodes a.old-nodes.now a.id c.in-At.i (sym c.find_node.ensures ∙ c.in-At.is)
+      node-found a.c.nodes a.old_nodes.now a.id c.in-At.i (sym c.find_node.ensures ∙ c.in-At.is)
     in
-    let room : 4 * c.args.c.nodes ≤ length c.args.old-nodes.now =
+    let room : 4 * c.args.c.nodes ≤ length c.args.old_nodes.now =
       c.requires.0.node_room
     in
     omega (arith, (found).within, room)
 
 pub offset_bounds-old_nodes-i-2 : goal.offset_bounds-old_nodes-i-2
 offset_bounds-old_nodes-i-2 c =
-    let found : NodeFound c.args.c.nodes c.args.old-nodes.now c.args.id c.in-At.i =
+    let found : NodeFound c.args.c.nodes c.args.old_nodes.now c.args.id c.in-At.i =
       let a = c.args in
-      node-found a.c.nodes a.old-nodes.now a.id c.in-At.i (sym c.find_node.ensures ∙ c.in-At.is)
+      node-found a.c.nodes a.old_nodes.now a.id c.in-At.i (sym c.find_node.ensures ∙ c.in-At.is)
     in
-    let room : 4 * c.args.c.nodes ≤ length c.args.old-nodes.now =
+    let room : 4 * c.args.c.nodes ≤ length c.args.old_nodes.now =
       c.requires.0.node_room
     in
     omega (arith, (found).within, room)
 
 pub bounds-old_nodes-i-2 : goal.bounds-old_nodes-i-2
 bounds-old_nodes-i-2 c =
-    let found : NodeFound c.args.c.nodes c.args.old-nodes.now c.args.id c.in-At.i =
+    let found : NodeFound c.args.c.nodes c.args.old_nodes.now c.args.id c.in-At.i =
       let a = c.args in
-      node-found a.c.nodes a.old-nodes.now a.id c.in-At.i (sym c.find_node.ensures ∙ c.in-At.is)
+      node-found a.c.nodes a.old_nodes.now a.id c.in-At.i (sym c.find_node.ensures ∙ c.in-At.is)
     in
-    let room : 4 * c.args.c.nodes ≤ length c.args.old-nodes.now =
+    let room : 4 * c.args.c.nodes ≤ length c.args.old_nodes.now =
       c.requires.0.node_room
     in
     omega (arith, (found).within, room)
 
 pub same_walk-requires : goal.same_walk-requires
 same_walk-requires c =
-    let found : NodeFound c.args.c.nodes c.args.old-nodes.now c.args.id c.in-At.i =
+    let found : NodeFound c.args.c.nodes c.args.old_nodes.now c.args.id c.in-At.i =
       let a = c.args in
-      node-found a.c.nodes a.old-nodes.now a.id c.in-At.i (sym c.find_node.ensures ∙ c.in-At.is)
+      node-found a.c.nodes a.old_nodes.now a.id c.in-At.i (sym c.find_node.ensures ∙ c.in-At.is)
     in
     let a = c.args in
-    let e = at_key a.old-nodes.now a.old-text.now a.c a.id a.len true c.in-At.i (found) c.if-old_nodes-i.false in
-    record { len_in_bounds = (inside a.old-nodes.now a.old-text.now a.c c.requires.0 (pack a.id 0) _ e, c.requires.2); readable = c.requires.1 }
+    let e = at_key a.old_nodes.now a.old_text.now a.c a.id a.len true c.in-At.i (found) c.if-old_nodes-i.false in
+    record { len_in_bounds = (inside a.old_nodes.now a.old_text.now a.c c.requires.0 (pack a.id 0) _ e, c.requires.2); readable = c.requires.1 }
 
 pub returns : goal.returns
 returns c =
-    let found : NodeFound c.args.c.nodes c.args.old-nodes.now c.args.id c.in-At.i =
+    let found : NodeFound c.args.c.nodes c.args.old_nodes.now c.args.id c.in-At.i =
       let a = c.args in
-      node-found a.c.nodes a.old-nodes.now a.id c.in-At.i (sym c.find_node.ensures ∙ c.in-At.is)
+      node-found a.c.nodes a.old_nodes.now a.id c.in-At.i (sym c.find_node.ensures ∙ c.in-At.is)
     in
     let a = c.args in
     let l = c.if-old_nodes-i.false in
-    let e = at_key a.old-nodes.now a.old-text.now a.c a.id a.len true c.in-At.i (found) l in
+    let e = at_key a.old_nodes.now a.old_text.now a.c a.id a.len true c.in-At.i (found) l in
     let w = spelled (graph_of a.nodes.now a.text.now [] a.d) a.steps.now a.end a.first in
     c.same_walk.ensures
-    ∙ ap (λ (t : List ℕ). same_spelling t w) (reads a.old-nodes.now a.old-text.now a.c c.requires.0 (pack a.id 0) _ e)
-    ∙ is_old a.old-nodes.now a.old-text.now a.c a.id a.len _ c.in-At.i (found) l
+    ∙ ap (λ (t : List ℕ). same_spelling t w) (reads a.old_nodes.now a.old_text.now a.c c.requires.0 (pack a.id 0) _ e)
+    ∙ is_old a.old_nodes.now a.old_text.now a.c a.id a.len _ c.in-At.i (found) l

@@ -44,20 +44,20 @@ module _ (old new : Lent) (rules steps : List ℕ) (u : Used) (protected : List 
 pub returns-then-number-ne0 : goal.returns-then-number-ne0
 returns-then-number-ne0 c =
     let a = c.args in
-    no_input (lent a.old-nodes.now a.old-text.now a.old-links.now a.c) (lent a.nodes.now a.text.now a.links.now a.d) a.rules.now a.steps.now a.u a.protected.now _ c.input_number-number.ensures c.if-number-ne0.true
+    no_input (lent a.old_nodes.now a.old_text.now a.old_links.now a.c) (lent a.nodes.now a.text.now a.links.now a.d) a.rules.now a.steps.now a.u a.protected.now _ c.input_number-number.ensures c.if-number-ne0.true
 
 pub conditions-requires : goal.conditions-requires
 conditions-requires c =
-    let zero : input_number (lent c.args.old-nodes.now c.args.old-text.now c.args.old-links.now c.args.c) (lent c.args.nodes.now c.args.text.now c.args.links.now c.args.d) c.args.rules.now c.args.steps.now c.args.u c.args.protected.now ≡ 0 =
+    let zero : input_number (lent c.args.old_nodes.now c.args.old_text.now c.args.old_links.now c.args.c) (lent c.args.nodes.now c.args.text.now c.args.links.now c.args.d) c.args.rules.now c.args.steps.now c.args.u c.args.protected.now ≡ 0 =
       sym c.input_number-number.ensures ∙ c.if-number-ne0.false
     in
     let a = c.args in
-    formed (lent a.old-nodes.now a.old-text.now a.old-links.now a.c) (lent a.nodes.now a.text.now a.links.now a.d) a.rules.now a.steps.now a.u a.protected.now (zero)
+    formed (lent a.old_nodes.now a.old_text.now a.old_links.now a.c) (lent a.nodes.now a.text.now a.links.now a.d) a.rules.now a.steps.now a.u a.protected.now (zero)
 
 pub returns : goal.returns
 returns c =
-    let zero : input_number (lent c.args.old-nodes.now c.args.old-text.now c.args.old-links.now c.args.c) (lent c.args.nodes.now c.args.text.now c.args.links.now c.args.d) c.args.rules.now c.args.steps.now c.args.u c.args.protected.now ≡ 0 =
+    let zero : input_number (lent c.args.old_nodes.now c.args.old_text.now c.args.old_links.now c.args.c) (lent c.args.nodes.now c.args.text.now c.args.links.now c.args.d) c.args.rules.now c.args.steps.now c.args.u c.args.protected.now ≡ 0 =
       sym c.input_number-number.ensures ∙ c.if-number-ne0.false
     in
     let a = c.args in
-    checked (lent a.old-nodes.now a.old-text.now a.old-links.now a.c) (lent a.nodes.now a.text.now a.links.now a.d) a.rules.now a.steps.now a.u a.protected.now (zero) _ c.conditions.ensures
+    checked (lent a.old_nodes.now a.old_text.now a.old_links.now a.c) (lent a.nodes.now a.text.now a.links.now a.d) a.rules.now a.steps.now a.u a.protected.now (zero) _ c.conditions.ensures

@@ -24,7 +24,7 @@ keys_new-requires c =
 pub returns-then-not-keys_new : goal.returns-then-not-keys_new
 returns-then-not-keys_new c =
     let a = c.args in
-    rw (keys_are a.rules.now a.steps.now a.u c.requires.u_value.0 a.p (nodes_of a.node-count a.nodes.now) (handles_of a.members.now) c.requires.passed c.requires.u_value.1, sym c.keys_new.ensures ∙ not-true _ c.if-not-keys_new.true-raw)
+    rw (keys_are a.rules.now a.steps.now a.u c.requires.u_value.0 a.p (nodes_of a.node_count a.nodes.now) (handles_of a.members.now) c.requires.passed c.requires.u_value.1, sym c.keys_new.ensures ∙ not-true _ c.if-not-keys_new.true-raw)
 
 pub in_order-requires : goal.in_order-requires
 in_order-requires c =
@@ -33,13 +33,13 @@ in_order-requires c =
 
 pub returns-then-not-in_order : goal.returns-then-not-in_order
 returns-then-not-in_order c =
-    let new_keys : keys_once (append_all (list_of c.args.rules.now c.args.steps.now c.args.u) (events_by c.args.p (nodes_of c.args.node-count c.args.nodes.now) (handles_of c.args.members.now))).rules ≡ true =
+    let new_keys : keys_once (append_all (list_of c.args.rules.now c.args.steps.now c.args.u) (events_by c.args.p (nodes_of c.args.node_count c.args.nodes.now) (handles_of c.args.members.now))).rules ≡ true =
       let a = c.args in
-      keys_are a.rules.now a.steps.now a.u c.requires.u_value.0 a.p (nodes_of a.node-count a.nodes.now) (handles_of a.members.now) c.requires.passed c.requires.u_value.1
+      keys_are a.rules.now a.steps.now a.u c.requires.u_value.0 a.p (nodes_of a.node_count a.nodes.now) (handles_of a.members.now) c.requires.passed c.requires.u_value.1
       ∙ sym c.keys_new.ensures ∙ not-false _ c.if-not-keys_new.false-raw
     in
     let a = c.args in
-    rw (new_keys, order_is a.rules.now a.steps.now a.u c.requires.u_value.0 a.p (nodes_of a.node-count a.nodes.now) (handles_of a.members.now) c.requires.passed, sym c.in_order.ensures ∙ not-true _ c.if-not-in_order.true-raw)
+    rw (new_keys, order_is a.rules.now a.steps.now a.u c.requires.u_value.0 a.p (nodes_of a.node_count a.nodes.now) (handles_of a.members.now) c.requires.passed, sym c.in_order.ensures ∙ not-true _ c.if-not-in_order.true-raw)
 
 pub steps_new-requires : goal.steps_new-requires
 steps_new-requires c =
@@ -51,20 +51,20 @@ steps_new-requires c =
 
 pub returns-then-not-steps_new : goal.returns-then-not-steps_new
 returns-then-not-steps_new c =
-    let new_keys : keys_once (append_all (list_of c.args.rules.now c.args.steps.now c.args.u) (events_by c.args.p (nodes_of c.args.node-count c.args.nodes.now) (handles_of c.args.members.now))).rules ≡ true =
+    let new_keys : keys_once (append_all (list_of c.args.rules.now c.args.steps.now c.args.u) (events_by c.args.p (nodes_of c.args.node_count c.args.nodes.now) (handles_of c.args.members.now))).rules ≡ true =
       let a = c.args in
-      keys_are a.rules.now a.steps.now a.u c.requires.u_value.0 a.p (nodes_of a.node-count a.nodes.now) (handles_of a.members.now) c.requires.passed c.requires.u_value.1
+      keys_are a.rules.now a.steps.now a.u c.requires.u_value.0 a.p (nodes_of a.node_count a.nodes.now) (handles_of a.members.now) c.requires.passed c.requires.u_value.1
       ∙ sym c.keys_new.ensures ∙ not-false _ c.if-not-keys_new.false-raw
     in
     let a = c.args in
-    rw (new_keys, order_is a.rules.now a.steps.now a.u c.requires.u_value.0 a.p (nodes_of a.node-count a.nodes.now) (handles_of a.members.now) c.requires.passed, sym c.in_order.ensures ∙ not-false _ c.if-not-in_order.false-raw, sym c.steps_new.ensures ∙ not-true _ c.if-not-steps_new.true-raw)
+    rw (new_keys, order_is a.rules.now a.steps.now a.u c.requires.u_value.0 a.p (nodes_of a.node_count a.nodes.now) (handles_of a.members.now) c.requires.passed, sym c.in_order.ensures ∙ not-false _ c.if-not-in_order.false-raw, sym c.steps_new.ensures ∙ not-true _ c.if-not-steps_new.true-raw)
 
 pub returns : goal.returns
 returns c =
-    let new_keys : keys_once (append_all (list_of c.args.rules.now c.args.steps.now c.args.u) (events_by c.args.p (nodes_of c.args.node-count c.args.nodes.now) (handles_of c.args.members.now))).rules ≡ true =
+    let new_keys : keys_once (append_all (list_of c.args.rules.now c.args.steps.now c.args.u) (events_by c.args.p (nodes_of c.args.node_count c.args.nodes.now) (handles_of c.args.members.now))).rules ≡ true =
       let a = c.args in
-      keys_are a.rules.now a.steps.now a.u c.requires.u_value.0 a.p (nodes_of a.node-count a.nodes.now) (handles_of a.members.now) c.requires.passed c.requires.u_value.1
+      keys_are a.rules.now a.steps.now a.u c.requires.u_value.0 a.p (nodes_of a.node_count a.nodes.now) (handles_of a.members.now) c.requires.passed c.requires.u_value.1
       ∙ sym c.keys_new.ensures ∙ not-false _ c.if-not-keys_new.false-raw
     in
     let a = c.args in
-    rw (new_keys, order_is a.rules.now a.steps.now a.u c.requires.u_value.0 a.p (nodes_of a.node-count a.nodes.now) (handles_of a.members.now) c.requires.passed, sym c.in_order.ensures ∙ not-false _ c.if-not-in_order.false-raw, sym c.steps_new.ensures ∙ not-false _ c.if-not-steps_new.false-raw)
+    rw (new_keys, order_is a.rules.now a.steps.now a.u c.requires.u_value.0 a.p (nodes_of a.node_count a.nodes.now) (handles_of a.members.now) c.requires.passed, sym c.in_order.ensures ∙ not-false _ c.if-not-in_order.false-raw, sym c.steps_new.ensures ∙ not-false _ c.if-not-steps_new.false-raw)

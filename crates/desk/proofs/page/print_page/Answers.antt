@@ -14,7 +14,7 @@ unfolding page_outcome
 returns-then-g-ne0 c =
     let h = c.print_headed-g in
     let a = c.args in
-    record { out_after = first-refused (headed_outcome a.text.now (lent a.nodes.now a.letters.now a.links.now a.d) a.out.now) (paths_outcome a.text.now a.old-nodes.now a.letters.now a.old-links.now a.c a.rules.now a.steps.now a.u) _ _ h.ensures.0 c.if-g-ne0.true; len_in_bounds = h.ensures.1 }
+    record { out_after = first-refused (headed_outcome a.text.now (lent a.nodes.now a.letters.now a.links.now a.d) a.out.now) (paths_outcome a.text.now a.old_nodes.now a.letters.now a.old_links.now a.c a.rules.now a.steps.now a.u) _ _ h.ensures.0 c.if-g-ne0.true; len_in_bounds = h.ensures.1 }
 
 pub returns-then-p-ne0 : goal.returns-then-p-ne0
 unfolding page_outcome
@@ -22,7 +22,7 @@ returns-then-p-ne0 c =
     let h = c.print_headed-g in
     let g = c.parse_and_transform_paths-p in
     let a = c.args in
-    record { out_after = next_refused (headed_outcome a.text.now (lent a.nodes.now a.letters.now a.links.now a.d) a.out.now) (paths_outcome a.text.now a.old-nodes.now a.letters.now a.old-links.now a.c a.rules.now a.steps.now a.u) _ _ h.ensures.0 c.if-g-ne0.false _ _ g.ensures c.if-p-ne0.true; len_in_bounds = omega arith }
+    record { out_after = next_refused (headed_outcome a.text.now (lent a.nodes.now a.letters.now a.links.now a.d) a.out.now) (paths_outcome a.text.now a.old_nodes.now a.letters.now a.old_links.now a.c a.rules.now a.steps.now a.u) _ _ h.ensures.0 c.if-g-ne0.false _ _ g.ensures c.if-p-ne0.true; len_in_bounds = omega arith }
 
 -- NOT TURNED
 add-t20 : tie.Need-overflow-add-t20
@@ -30,7 +30,7 @@ add-t20 c =
     let h = c.before.before.before.before.before.before.before.before.before.before.before.print-headed in
     let g = c.before.before.before.before.before.parse-and-transform-paths in
     let a = c.before.before.before.before.before.before.before.before.before.before.before.before.before.before.before.before.before.before.before.before.before.before.args in
-    let i = inside_of _ _ _ g.ensures (paths-inside a.old-nodes.now a.letters.now a.old-links.now a.c a.rules.now a.steps.now a.u _ a.text.now) in
+    let i = inside_of _ _ _ g.ensures (paths-inside a.old_nodes.now a.letters.now a.old_links.now a.c a.rules.now a.steps.now a.u _ a.text.now) in
     let j = back_inside h.result.len h.new.1.1.1.1.1.0 g.result.len g.new.1.1.1.1.1.1.1.1.0 h.ensures.1 i in
     let n = h.result.len in
     let xs = h.new.1.1.1.1.1.0 in
@@ -44,5 +44,5 @@ returns c =
     let h = c.print_headed-g in
     let g = c.parse_and_transform_paths-p in
     let a = c.args in
-    let i = inside_of _ _ _ g.ensures (paths-inside a.old-nodes.now a.letters.now a.old-links.now a.c a.rules.now a.steps.now a.u _ a.text.now) in
-    record { out_after = both-written (headed_outcome a.text.now (lent a.nodes.now a.letters.now a.links.now a.d) a.out.now) (paths_outcome a.text.now a.old-nodes.now a.letters.now a.old-links.now a.c a.rules.now a.steps.now a.u) _ _ h.ensures.0 c.if-g-ne0.false _ _ g.ensures c.if-p-ne0.false; len_in_bounds = back_inside h.result.len h.new.1.1.1.1.1.0 g.result.len g.new.1.1.1.1.1.1.1.1.0 h.ensures.1 i }
+    let i = inside_of _ _ _ g.ensures (paths-inside a.old_nodes.now a.letters.now a.old_links.now a.c a.rules.now a.steps.now a.u _ a.text.now) in
+    record { out_after = both-written (headed_outcome a.text.now (lent a.nodes.now a.letters.now a.links.now a.d) a.out.now) (paths_outcome a.text.now a.old_nodes.now a.letters.now a.old_links.now a.c a.rules.now a.steps.now a.u) _ _ h.ensures.0 c.if-g-ne0.false _ _ g.ensures c.if-p-ne0.false; len_in_bounds = back_inside h.result.len h.new.1.1.1.1.1.0 g.result.len g.new.1.1.1.1.1.1.1.1.0 h.ensures.1 i }

@@ -20,7 +20,7 @@ loop-i-smaller c = omega (arith)
 pub loop-i-preserved : goal.loop-i-preserved
 loop-i-preserved c =
     let a = c.args in
-    (omega arith, put_one c.loop-i.invariant.1 (dim-new (nodes_of a.node-count a.nodes.now) c.dim_mark-mark.result (left-link a.count c.loop-i.i a.links.now (omega arith)) c.dim_mark-mark.ensures) (omega arith) c.put_link.ensures)
+    (omega arith, put_one c.loop-i.invariant.1 (dim-new (nodes_of a.node_count a.nodes.now) c.dim_mark-mark.result (left-link a.count c.loop-i.i a.links.now (omega arith)) c.dim_mark-mark.ensures) (omega arith) c.put_link.ensures)
 
 pub shape_of-plan : goal.shape_of-plan
 shape_of-plan c = c.loop-i.invariant.1.size
@@ -28,4 +28,4 @@ shape_of-plan c = c.loop-i.invariant.1.size
 pub returns : goal.returns
 returns c =
     let a = c.args in
-    all-put c.loop-i.invariant.1 (omega arith) (ap (map (dim (nodes_of a.node-count a.nodes.now))) (left_none link_layout a.count c.loop-i.i a.links.now (omega arith))) c.requires.2
+    all-put c.loop-i.invariant.1 (omega arith) (ap (map (dim (nodes_of a.node_count a.nodes.now))) (left_none link_layout a.count c.loop-i.i a.links.now (omega arith))) c.requires.2

@@ -19,7 +19,7 @@ returns-in_default c =
     let a = c.args in
     let rs : List Node = nodes_of a.count a.nodes.now in
     let none = no_node (id_of a.m) rs (sym (c.find_node.ensures ∙ ap (λ (j : ℕ). find_node j rs) c.id-id.ensures) ∙ c.in_default.is) in
-    alone-kept a.p a.count a.nodes.now a.m c.requires.count_in_bounds.0 (omega (arith, ap (λ (r : Node). r.len) none))
+    let both = alone-kept a.p a.count a.nodes.now a.m c.requires.count_in_bounds.0 (omega (arith, ap (λ (r : Node). r.len) none)) in record { value = both.0; nodes_after = both.1 }
 
 pub overflow_mul-len : goal.overflow_mul-len
 overflow_mul-len c =
@@ -80,7 +80,7 @@ returns-then-len-p c =
       node-found a.count a.nodes.now (id_of a.m) c.in-At.i (at_slot)
     in
     let a = c.args in
-    alone-kept a.p a.count a.nodes.now a.m c.requires.count_in_bounds.0 (omega (arith, ap (λ (r : Node). r.len) (found).here))
+    let both = alone-kept a.p a.count a.nodes.now a.m c.requires.count_in_bounds.0 (omega (arith, ap (λ (r : Node). r.len) (found).here)) in record { value = both.0; nodes_after = both.1 }
 
 pub split_nodes-requires : goal.split_nodes-requires
 split_nodes-requires c =
@@ -102,19 +102,10 @@ split_nodes-requires c =
     let a = c.args in
     let rs : List Node = nodes_of a.count a.nodes.now in
     let v = ap (λ (j : ℕ). node_named j rs) c.id-id.ensures in
-    let low = cut-within a.p rs a.m (omega (arith, long)) in (
-    omega (arith, c.requires.count_in_bounds.1, alone-more a.p rs a.m (long), length-decode node_layout a.count a.nodes.now),
-    (
-    ((found).within, sym c.find_node.ensures ∙ c.in-At.is, c.requires.nodes_value.0),
-    (
-    c.requires.nodes_value.1,
-    (
+    let low = cut-within a.p rs a.m (omega (arith, long)) in record { count_in_bounds = omega (arith, c.requires.count_in_bounds.1, alone-more a.p rs a.m (long), length-decode node_layout a.count a.nodes.now); at_lt_count = ((found).within, sym c.find_node.ensures ∙ c.in-At.is, c.requires.nodes_value.0); fresh_value = c.requires.nodes_value.1; k_bound = (
     omega (arith, cut_is, low, ap (λ (r : Node). r.len) v),
     omega (arith, cut_is, low, ap (λ (r : Node). r.start) v, c.requires.nodes_bound),
-    ),
-    ),
-    ),
-    )
+    ) }
 
 pub returns : goal.returns
 returns c =
@@ -134,4 +125,4 @@ returns c =
       c.cut_at-k.ensures ∙ ap (λ (r : Node). cond (is_forward a.m) a.p (r.len - a.p)) (sym (found).here)
     in
     let a = c.args in
-    alone-cut a.p a.count a.nodes.now a.m (long) c.id-id.ensures (cut_is) c.split_nodes.ensures
+    let both = alone-cut a.p a.count a.nodes.now a.m (long) c.id-id.ensures (cut_is) c.split_nodes.ensures in record { value = both.0; nodes_after = both.1 }

@@ -20,4 +20,4 @@ mark_node-requires c =
 pub returns : goal.returns
 returns c =
     let a = c.args in
-    mark_alone a.p a.count a.nodes.now a.m (ap (λ (x : ℕ). x + 1) c.largest_id-fresh.ensures) c.prefix_id-id.ensures c.alone_nodes-n.ensures.value c.alone_nodes-n.ensures.nodes_after c.mark_node.ensures
+    let both = mark_alone a.p a.count a.nodes.now a.m (ap (λ (x : ℕ). x + 1) c.largest_id-fresh.ensures) c.prefix_id-id.ensures c.alone_nodes-n.ensures.value c.alone_nodes-n.ensures.nodes_after c.mark_node.ensures in record { value = both.0; nodes_after = both.1 }

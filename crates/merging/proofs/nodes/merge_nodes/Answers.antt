@@ -94,65 +94,62 @@ module _ (l₀ : List ℕ) (n₀ : ℕ) (ns : List ℕ) (p : ℕ) (h : 0 < lengt
 
 pub alone_nodes-n-requires : goal.alone_nodes-n-requires
 alone_nodes-n-requires c =
-    let ready : Ready c.args.p (length c.args.nodes.now) (nodes_of c.args.node-count c.args.nodes.now) (map handle c.args.members.now) =
+    let ready : Ready c.args.p (length c.args.nodes.now) (nodes_of c.args.node_count c.args.nodes.now) (map handle c.args.members.now) =
       let a = c.args in
-      let rs : List Node = nodes_of a.node-count a.nodes.now in
+      let rs : List Node = nodes_of a.node_count a.nodes.now in
       record {
       once = c.requires.in_bounds.1;
       apart = c.requires.members_value.1;
       there = λ m k. all_mem (λ h. stored (id_of h) rs) c.requires.members_value.0 k;
       ends = λ m k. c.requires.by_index (id_of m);
       fits = c.requires.members_bound;
-      space = omega (arith, c.requires.members_in_bounds, length-decode node_layout a.node-count a.nodes.now);
+      space = omega (arith, c.requires.members_in_bounds, length-decode node_layout a.node_count a.nodes.now);
       }
     in
     let a = c.args in
-    let r = ready_first a.nodes.now a.node-count a.members.now a.p c.requires.in_bounds.0 (ready) in
+    let r = ready_first a.nodes.now a.node_count a.members.now a.p c.requires.in_bounds.0 (ready) in
     record { count_in_bounds = (omega (arith, c.requires.members_in_bounds), alone_space a.p _ _ _ _ r); nodes_value = (c.requires.in_bounds.1, ap (λ (x : ℕ). x + 1) c.largest_id-fresh.ensures); nodes_bound = c.requires.by_index _ }
 
 pub loop-i-init : goal.loop-i-init
 loop-i-init c =
-    let ready : Ready c.args.p (length c.args.nodes.now) (nodes_of c.args.node-count c.args.nodes.now) (map handle c.args.members.now) =
+    let ready : Ready c.args.p (length c.args.nodes.now) (nodes_of c.args.node_count c.args.nodes.now) (map handle c.args.members.now) =
       let a = c.args in
-      let rs : List Node = nodes_of a.node-count a.nodes.now in
+      let rs : List Node = nodes_of a.node_count a.nodes.now in
       record {
       once = c.requires.in_bounds.1;
       apart = c.requires.members_value.1;
       there = λ m k. all_mem (λ h. stored (id_of h) rs) c.requires.members_value.0 k;
       ends = λ m k. c.requires.by_index (id_of m);
       fits = c.requires.members_bound;
-      space = omega (arith, c.requires.members_in_bounds, length-decode node_layout a.node-count a.nodes.now);
+      space = omega (arith, c.requires.members_in_bounds, length-decode node_layout a.node_count a.nodes.now);
       }
     in
     let a = c.args in
-    start a.nodes.now a.node-count a.members.now a.p c.requires.in_bounds.0 (ready) _ _ c.alone_nodes-n.ensures.value c.alone_nodes-n.ensures.nodes_after (omega arith)
+    start a.nodes.now a.node_count a.members.now a.p c.requires.in_bounds.0 (ready) _ _ c.alone_nodes-n.ensures.value c.alone_nodes-n.ensures.nodes_after (omega arith)
 
 pub later_nodes-n-requires : goal.later_nodes-n-requires
 later_nodes-n-requires c =
     let a = c.args in
-    let l = c.loop-i in
-    let r = ready_next _ _ a.members.now a.p l.nodes l.n l.i l.invariant (omega arith) in record { count_in_bounds = (omega (arith, r.space, l.invariant.size, length-decode node_layout l.n l.nodes), omega (arith, alone_space a.p _ _ _ _ r, l.invariant.size)); nodes_value = ((r.once, r.there _ (Memᴰ.head refl), omega (arith, r.fits)), r.ends _ (Memᴰ.head refl)); nodes_bound =  }
+    let r = ready_next _ _ a.members.now a.p c.loop-i.nodes c.loop-i.n c.loop-i.i c.loop-i.invariant (omega arith) in record { count_in_bounds = (omega (arith, r.space, c.loop-i.invariant.size, length-decode node_layout c.loop-i.n c.loop-i.nodes), omega (arith, alone_space a.p _ _ _ _ r, c.loop-i.invariant.size)); nodes_value = (r.once, r.there _ (Memᴰ.head refl), omega (arith, r.fits)); nodes_bound = r.ends _ (Memᴰ.head refl) }
 
 pub loop-i-preserved : goal.loop-i-preserved
 loop-i-preserved c =
     let a = c.args in
-    let l = c.loop-i in
-    turn _ _ a.members.now a.p l.nodes l.n l.i l.invariant (omega arith) _ _ c.later_nodes-n.ensures.value c.later_nodes-n.ensures.nodes_after (omega arith)
+    turn _ _ a.members.now a.p c.loop-i.nodes c.loop-i.n c.loop-i.i c.loop-i.invariant (omega arith) _ _ c.later_nodes-n.ensures.value c.later_nodes-n.ensures.nodes_after (omega arith)
 
 pub returns : goal.returns
 returns c =
-    let ready : Ready c.args.p (length c.args.nodes.now) (nodes_of c.args.node-count c.args.nodes.now) (map handle c.args.members.now) =
+    let ready : Ready c.args.p (length c.args.nodes.now) (nodes_of c.args.node_count c.args.nodes.now) (map handle c.args.members.now) =
       let a = c.args in
-      let rs : List Node = nodes_of a.node-count a.nodes.now in
+      let rs : List Node = nodes_of a.node_count a.nodes.now in
       record {
       once = c.requires.in_bounds.1;
       apart = c.requires.members_value.1;
       there = λ m k. all_mem (λ h. stored (id_of h) rs) c.requires.members_value.0 k;
       ends = λ m k. c.requires.by_index (id_of m);
       fits = c.requires.members_bound;
-      space = omega (arith, c.requires.members_in_bounds, length-decode node_layout a.node-count a.nodes.now);
+      space = omega (arith, c.requires.members_in_bounds, length-decode node_layout a.node_count a.nodes.now);
       }
     in
     let a = c.args in
-    let l = c.loop-i in
-    done a.nodes.now a.node-count a.members.now a.p c.requires.in_bounds.0 (ready) _ _ c.alone_nodes-n.ensures.value c.alone_nodes-n.ensures.nodes_after (omega arith) l.nodes l.n l.i l.invariant (omega arith)
+    let both = done a.nodes.now a.node_count a.members.now a.p c.requires.in_bounds.0 (ready) _ _ c.alone_nodes-n.ensures.value c.alone_nodes-n.ensures.nodes_after (omega arith) c.loop-i.nodes c.loop-i.n c.loop-i.i c.loop-i.invariant (omega arith) in record { value = both.0; nodes_after = both.1 }

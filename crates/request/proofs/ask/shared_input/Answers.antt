@@ -1,4 +1,4 @@
-use mathlib.Core.List.{◌∷◌}
+use mathlib.Core.List.{[], ◌∷◌}
 use borrow.Author.Tests.{not-true, not-false}
 use Rattle.request.proofs.Turns.{ids-named, ids_standard}
 use Rattle.request.proofs.ask.shared_input.Goals as goal

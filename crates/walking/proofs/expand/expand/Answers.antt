@@ -47,8 +47,8 @@ module _ (rules steps : List ℕ) (u : Used) (o p : List ℕ) where
 pub returns-then-not-events_formed : goal.returns-then-not-events_formed
 returns-then-not-events_formed c =
     let a = c.args in
-    ap (λ (r : Expanded). outcome r a.out-rules.now a.out-steps.now) c.refuse.ensures
-    ∙ faulty a.rules.now a.steps.now a.u a.out-rules.now a.out-steps.now (sym c.events_formed.ensures ∙ not-true _ c.if-not-events_formed.true-raw)
+    ap (λ (r : Expanded). outcome r a.out_rules.now a.out_steps.now) c.refuse.ensures
+    ∙ faulty a.rules.now a.steps.now a.u a.out_rules.now a.out_steps.now (sym c.events_formed.ensures ∙ not-true _ c.if-not-events_formed.true-raw)
 
 pub keys_once-requires : goal.keys_once-requires
 keys_once-requires c =
@@ -68,8 +68,8 @@ returns-then-not-keys_once c =
       sym c.events_formed.ensures ∙ not-false _ c.if-not-events_formed.false-raw
     in
     let a = c.args in
-    ap (λ (r : Expanded). outcome r a.out-rules.now a.out-steps.now) c.refuse-then-not-keys_once.ensures
-    ∙ twice a.rules.now a.steps.now a.u a.out-rules.now a.out-steps.now (formed) (sym c.keys_once.ensures ∙ not-true _ c.if-not-keys_once.true-raw)
+    ap (λ (r : Expanded). outcome r a.out_rules.now a.out_steps.now) c.refuse-then-not-keys_once.ensures
+    ∙ twice a.rules.now a.steps.now a.u a.out_rules.now a.out_steps.now (formed) (sym c.keys_once.ensures ∙ not-true _ c.if-not-keys_once.true-raw)
 
 pub in_order-requires : goal.in_order-requires
 in_order-requires c =
@@ -91,8 +91,8 @@ returns-then-not-in_order c =
       sym c.keys_once.ensures ∙ not-false _ c.if-not-keys_once.false-raw
     in
     let a = c.args in
-    ap (λ (r : Expanded). outcome r a.out-rules.now a.out-steps.now) c.refuse-then-not-in_order.ensures
-    ∙ early a.rules.now a.steps.now a.u a.out-rules.now a.out-steps.now (formed) (once) (sym c.in_order.ensures ∙ not-true _ c.if-not-in_order.true-raw)
+    ap (λ (r : Expanded). outcome r a.out_rules.now a.out_steps.now) c.refuse-then-not-in_order.ensures
+    ∙ early a.rules.now a.steps.now a.u a.out_rules.now a.out_steps.now (formed) (once) (sym c.in_order.ensures ∙ not-true _ c.if-not-in_order.true-raw)
 
 pub measure-total-requires : goal.measure-total-requires
 measure-total-requires c =
@@ -118,14 +118,14 @@ returns-then-not-room_for_rules c =
     let ordered : in_order (list_of c.args.rules.now c.args.steps.now c.args.u) ≡ true =
       sym c.in_order.ensures ∙ not-false _ c.if-not-in_order.false-raw
     in
-    let fits : c.room_for_rules.result ≡ table_fits (expanded (list_of c.args.rules.now c.args.steps.now c.args.u)) c.args.out-rules.now c.args.out-steps.now =
+    let fits : c.room_for_rules.result ≡ table_fits (expanded (list_of c.args.rules.now c.args.steps.now c.args.u)) c.args.out_rules.now c.args.out_steps.now =
       let a = c.args in
       let m = c.measure-total in
-      c.room_for_rules.ensures ∙ room-same a.rules.now a.steps.now a.u _ a.out-rules.now a.out-steps.now (record { rules = a.u.rules; steps = m.result }) refl m.ensures
+      c.room_for_rules.ensures ∙ room-same a.rules.now a.steps.now a.u _ a.out_rules.now a.out_steps.now (record { rules = a.u.rules; steps = m.result }) refl m.ensures
     in
     let a = c.args in
-    ap (λ (r : Expanded). outcome r a.out-rules.now a.out-steps.now) c.refuse-then-not-room_for_rules.ensures
-    ∙ large a.rules.now a.steps.now a.u a.out-rules.now a.out-steps.now (formed) (once) (ordered) (sym (fits) ∙ not-true _ c.if-not-room_for_rules.true-raw)
+    ap (λ (r : Expanded). outcome r a.out_rules.now a.out_steps.now) c.refuse-then-not-room_for_rules.ensures
+    ∙ large a.rules.now a.steps.now a.u a.out_rules.now a.out_steps.now (formed) (once) (ordered) (sym (fits) ∙ not-true _ c.if-not-room_for_rules.true-raw)
 
 pub write_table-requires : goal.write_table-requires
 write_table-requires c =
@@ -139,7 +139,7 @@ write_table-requires c =
     let ordered : in_order (list_of c.args.rules.now c.args.steps.now c.args.u) ≡ true =
       sym c.in_order.ensures ∙ not-false _ c.if-not-in_order.false-raw
     in
-    let ready : Buildable c.args.rules.now c.args.steps.now c.args.u c.measure-total.new.1.1.1.0 c.args.out-rules.now c.args.out-steps.now (record { rules = c.args.u.rules; steps = c.measure-total.result }) =
+    let ready : Buildable c.args.rules.now c.args.steps.now c.args.u c.measure-total.new.1.1.1.0 c.args.out_rules.now c.args.out_steps.now (record { rules = c.args.u.rules; steps = c.measure-total.result }) =
       let a = c.args in
       let m = c.measure-total in
       record {
@@ -164,7 +164,7 @@ returns c =
     let ordered : in_order (list_of c.args.rules.now c.args.steps.now c.args.u) ≡ true =
       sym c.in_order.ensures ∙ not-false _ c.if-not-in_order.false-raw
     in
-    let ready : Buildable c.args.rules.now c.args.steps.now c.args.u c.measure-total.new.1.1.1.0 c.args.out-rules.now c.args.out-steps.now (record { rules = c.args.u.rules; steps = c.measure-total.result }) =
+    let ready : Buildable c.args.rules.now c.args.steps.now c.args.u c.measure-total.new.1.1.1.0 c.args.out_rules.now c.args.out_steps.now (record { rules = c.args.u.rules; steps = c.measure-total.result }) =
       let a = c.args in
       let m = c.measure-total in
       record {
@@ -178,11 +178,11 @@ returns c =
     let once : keys_once (rules_of c.args.u.rules c.args.rules.now) ≡ true =
       sym c.keys_once.ensures ∙ not-false _ c.if-not-keys_once.false-raw
     in
-    let fits : c.room_for_rules.result ≡ table_fits (expanded (list_of c.args.rules.now c.args.steps.now c.args.u)) c.args.out-rules.now c.args.out-steps.now =
+    let fits : c.room_for_rules.result ≡ table_fits (expanded (list_of c.args.rules.now c.args.steps.now c.args.u)) c.args.out_rules.now c.args.out_steps.now =
       let a = c.args in
       let m = c.measure-total in
-      c.room_for_rules.ensures ∙ room-same a.rules.now a.steps.now a.u _ a.out-rules.now a.out-steps.now (record { rules = a.u.rules; steps = m.result }) refl m.ensures
+      c.room_for_rules.ensures ∙ room-same a.rules.now a.steps.now a.u _ a.out_rules.now a.out_steps.now (record { rules = a.u.rules; steps = m.result }) refl m.ensures
     in
     let a = c.args in
     let b = ready in
-    done a.rules.now a.steps.now a.u a.out-rules.now a.out-steps.now (formed) (once) (ordered) _ _ _ _ (sym (fits) ∙ not-false _ c.if-not-room_for_rules.false-raw) (given-rules a.rules.now a.steps.now a.u _ a.out-rules.now a.out-steps.now _ b) (given-steps a.rules.now a.steps.now a.u _ a.out-rules.now a.out-steps.now _ b) c.write_table.ensures
+    done a.rules.now a.steps.now a.u a.out_rules.now a.out_steps.now (formed) (once) (ordered) _ _ _ _ (sym (fits) ∙ not-false _ c.if-not-room_for_rules.false-raw) (given-rules a.rules.now a.steps.now a.u _ a.out_rules.now a.out_steps.now _ b) (given-steps a.rules.now a.steps.now a.u _ a.out_rules.now a.out_steps.now _ b) c.write_table.ensures
