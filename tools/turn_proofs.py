@@ -822,13 +822,11 @@ def by_elim(text, arms, renames):
         if not m:
             return None
         w, term = m[1], m[2]
-        tests = [it for it in fields if not it.endswith("-is")]
         values = [it for it in fields if it.endswith("-is")]
-        refs = sorted(set(re.findall(r"(?<![\w.])%s\.(\d+)\.(?:taken|left|true|false)" % re.escape(w), term)), key=int)
-        only = sorted(set(re.findall(r"(?<![\w.])%s\.(\d+)(?![.\d])" % re.escape(w), term)), key=int)
-        # the last tests are the ones that a proof cites, and the values come last
-        def test(k):
-            return tests[k] if k < len(tests) else None
+        tests = [it for it in fields if it.startswith(("if-", "in-", "in_")) and it not in values or it.endswith("-test")]
+        calls = [it for it in fields if it not in tests and it not in values]
+        numbers = lambda words: sorted(set(re.findall(r"(?<![\w.])%s\.(\d+)%s" % (re.escape(w), words), term)), key=int)
+        refs, only, called = numbers(r"\.(?:taken|left|true|false)\b"), numbers(r"(?![.\d])"), numbers(r"\.(?:ensures|result|new)\b")
 
         def word(step, it):
             it = {"taken": "true", "left": "false"}.get(it, it)
@@ -836,23 +834,24 @@ def by_elim(text, arms, renames):
 
         def one(m):
             number, rest = m[1], m[2]
-            if number is None:
-                step = tests[0] if tests else None
+            if not tests:
+                return m[0]
+            if number is None or number == "0":
+                step = tests[0]
             else:
-                k = refs.index(number)
-                # by position where all that is counted are tests
-                at = int(number)
-                step = tests[at] if at < len(tests) and len(refs) != 1 else test(k if at else 0)
-                if at and len(refs) == 1 and tests:
-                    step = tests[-1]
-            return f"w.{step}.{word(step, rest)}" if step else m[0]
+                step = tests[max(-len(tests), refs.index(number) - len(refs))]
+            return f"w.{step}.{word(step, rest)}"
 
         term = re.sub(r"(?<![\w.])%s\.(?:(\d+)\.)?(taken|left|true|false)\b" % re.escape(w), one, term)
         for k, number in enumerate(only):
             if k < len(values):
                 term = re.sub(r"(?<![\w.])%s\.%s(?![.\d])" % (re.escape(w), number), f"w.{values[k]}", term)
-        if tests:
-            term = re.sub(r"(?<![\w.])%s\.(\d+)\.(ensures|result)" % re.escape(w), lambda m: next((f"w.{it}.{m[2]}" for it in fields if not it.startswith(("if-", "in")) and not it.endswith("-is")), m[0]), term)
+        for k, number in enumerate(called):
+            if len(called) == len(calls) or k < len(calls):
+                step = calls[k - len(called)] if len(calls) >= len(called) else calls[k]
+                term = re.sub(r"(?<![\w.])%s\.%s\.(?=ensures|result|new)" % (re.escape(w), number), f"w.{step}.", term)
+        if w != "w":
+            term = re.sub(r"(?<![\w.])%s(?![\w.-])" % re.escape(w), "w", term)
         return term
 
     while True:
@@ -907,7 +906,7 @@ def by_elim(text, arms, renames):
 
 def prune(crate, root, given=None):
     os.makedirs("/tmp/open", exist_ok=True)
-    taken, tried, stuck, said = {}, set(), [], ""
+    taken, tried, stuck, said, added = {}, set(), [], "", {}
     names = None
     for _ in range(6):
         said = check(crate, root)
@@ -922,7 +921,10 @@ def prune(crate, root, given=None):
                 continue
             if (at, name) not in taken:
                 taken[at, name] = (text[it[0] : it[1]].strip(), why)
-            write(path, text[: it[0]] + text[it[1] :])
+            text = text[: it[0]] + text[it[1] :]
+            for line in added.pop((at, name), []):
+                text = text.replace(line, "", 1)
+            write(path, text)
             moved = True
         if moved:
             continue
@@ -947,7 +949,10 @@ def prune(crate, root, given=None):
             path = f"{root}/crates/{crate}/proofs/{at}/Answers.antt"
             home = f"Rattle.{crate}.proofs.{at.replace('/', '.')}"
             text = read(path)
-            text = text.replace(f"use {home}.Goals as goal\n", f"use {home}.Goals as goal\nuse {home}.Goals.{{{', '.join(dict.fromkeys(arms))}}}\n", 1)
+            line = f"use {home}.Goals.{{{', '.join(dict.fromkeys(arms))}}}\n"
+            if arms and line not in text:
+                added[key] = [line]
+                text = text.replace(f"use {home}.Goals as goal\n", f"use {home}.Goals as goal\n{line}", 1)
             write(path, text.rstrip() + "\n\n" + new + "\n")
             moved = True
         if not moved:

@@ -36,20 +36,19 @@ returns-then-v-eq0 c =
 pub group_of-n-requires : goal.group_of-n-requires
 group_of-n-requires c = (c.requires.0, omega (arith, c.requires.1, c.loop-c.invariant.0))
 
--- NOT TURNED
-same-length-2 : tie.Need-same-length-2 invariant-loop decreases-loop
-same-length-2 c = c.before.before.before.Group-of.auto.1.1.1.1.1.1.0 ∙ c.before.before.before.before.before.before.before.loop.invariant.0
+pub shape_of-members-then-n-ne0 : goal.shape_of-members-then-n-ne0
+shape_of-members-then-n-ne0 c = c.group_of-n.auto.1.1.1.1.1.1.0 ∙ c.loop-c.invariant.0
 
--- NOT TURNED
-returns-2 : tie.Need-returns-2 invariant-loop decreases-loop
-returns-2 c =
-    let w = c.before.before.before in
-    let r = w.before.before in
-    let at = r.before.before in
-    let a = at.before.before.before.before.before.before.args in
+pub returns-then-n-ne0 : goal.returns-then-n-ne0
+returns-then-n-ne0 c =
+    let step : Step c.loop-c.above (scan_order (nodes_of c.args.c.nodes c.args.nodes.now)) c.next_scan-v.result =
+      let a = c.args in
+      next-step c.loop-c.above c.next_scan-v.result (scan_sorted (nodes_of a.c.nodes a.nodes.now)) c.next_scan-v.ensures c.if-v-eq0.false
+    in
+    let a = c.args in
     let g : Graph = graph_of a.nodes.now a.text.now a.links.now a.c in
-    let v = r.before.next-scan.result in
-    turn-found g a.protected.now (groups_of g (handle v)) (lines (groups_of g) (rest_above v (scan_order g.nodes))) (ap (lines (groups_of g)) (step r).rest) at.loop.invariant.1 w.Group-of.ensures c.if2.true
+    let v = c.next_scan-v.result in
+    turn-found g a.protected.now (groups_of g (handle v)) (lines (groups_of g) (rest_above v (scan_order g.nodes))) (ap (lines (groups_of g)) (step).rest) c.loop-c.invariant.1 c.group_of-n.ensures c.if-n-ne0.true
 
 pub loop-c-smaller : goal.loop-c-smaller
 loop-c-smaller c =
@@ -59,13 +58,13 @@ loop-c-smaller c =
     in
     let s = step in omega (arith, ap length s.rest)
 
--- NOT TURNED
-loop-again : tie.Need-loop-preserved invariant-loop decreases-loop
-loop-again c =
-    let w = c.before.before.before in
-    let r = w.before.before in
-    let at = r.before.before in
-    let a = at.before.before.before.before.before.before.args in
+pub loop-c-preserved : goal.loop-c-preserved
+loop-c-preserved c =
+    let step : Step c.loop-c.above (scan_order (nodes_of c.args.c.nodes c.args.nodes.now)) c.next_scan-v.result =
+      let a = c.args in
+      next-step c.loop-c.above c.next_scan-v.result (scan_sorted (nodes_of a.c.nodes a.nodes.now)) c.next_scan-v.ensures c.if-v-eq0.false
+    in
+    let a = c.args in
     let g : Graph = graph_of a.nodes.now a.text.now a.links.now a.c in
-    let v = r.before.next-scan.result in
-    (w.Group-of.auto.1.1.1.1.1.1.0 ∙ at.loop.invariant.0, turn_none g a.protected.now (groups_of g (handle v)) (lines (groups_of g) (rest_above v (scan_order g.nodes))) (ap (lines (groups_of g)) (step r).rest) at.loop.invariant.1 w.Group-of.ensures c.if2.false)
+    let v = c.next_scan-v.result in
+    (c.group_of-n.auto.1.1.1.1.1.1.0 ∙ c.loop-c.invariant.0, turn_none g a.protected.now (groups_of g (handle v)) (lines (groups_of g) (rest_above v (scan_order g.nodes))) (ap (lines (groups_of g)) (step).rest) c.loop-c.invariant.1 c.group_of-n.ensures c.if-n-ne0.false)

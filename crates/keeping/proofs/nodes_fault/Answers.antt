@@ -1,11 +1,15 @@
 use mathlib.Core.List.{[]}
-use Prim.Native.Nat.{◌-◌}
-use mathlib.Core.Path.{◌≡◌, ap, ◌∙◌}
+use Prim.Native.Nat.{◌-◌, ◌*◌}
+use mathlib.Core.Path.{◌≡◌, sym, ap, ◌∙◌}
 use native.Mathlib.Omega.{arith}
 use borrow.Author.Tests.{not-true, not-false}
+use Rattle.handle.specs.declared.Handle.{Handle}
 use Rattle.store.specs.Graph.{graph_of}
 use Rattle.events.specs.Events.{list_of}
+use Rattle.keeping.specs.Kept.{node_kept}
 use Rattle.keeping.proofs.NodesKept.{from_node, no_fault, turn-kept, turn-lost, id_high}
+use lib.ListN.{get_or}
+use Rattle.handle.specs.Handle.{pack}
 use Rattle.keeping.proofs.nodes_fault.Goals as goal
 
 pub loop-i-init : goal.loop-i-init
@@ -21,19 +25,23 @@ forward-requires c =
 pub node_kept-requires : goal.node_kept-requires
 node_kept-requires c = c.requires
 
--- NOT TURNED
-loop-again : tie.Need-loop-preserved invariant-loop decreases-loop
-loop-again c =
-    let at = c.before.before.before.before.before.before in
-    let a = at.before.before.before.before.before.before.args in
-    (omega arith, c.lower-fault.ensures ∙ turn-lost (graph_of a.oldnodes.now a.oldtext.now [] a.c) (graph_of a.nodes.now a.text.now [] a.d) (list_of a.rules.now [] a.u) a.c.nodes a.oldnodes.now at.loop.i at.loop.v (omega arith) (omega arith) at.loop.invariant.1 (kept_so c.before.before ∙ not-true c.before.before.Node-kept.result c.before.if1.true))
+pub loop-i-preserved-then-not-node_kept : goal.loop-i-preserved-then-not-node_kept
+loop-i-preserved-then-not-node_kept c =
+    let kept_so : node_kept (graph_of c.args.oldnodes.now c.args.oldtext.now [] c.args.c) (graph_of c.args.nodes.now c.args.text.now [] c.args.d) (list_of c.args.rules.now [] c.args.u) (pack (get_or c.args.oldnodes.now (4 * (c.loop-i.i - 1)) 0) 0) ≡ c.node_kept.result =
+      let a = c.args in
+      ap (λ (x : Handle). node_kept (graph_of a.oldnodes.now a.oldtext.now [] a.c) (graph_of a.nodes.now a.text.now [] a.d) (list_of a.rules.now [] a.u) x) (sym c.forward.ensures) ∙ sym c.node_kept.ensures
+    in
+    let a = c.args in
+    (omega arith, c.lower_fault-v.ensures ∙ turn-lost (graph_of a.oldnodes.now a.oldtext.now [] a.c) (graph_of a.nodes.now a.text.now [] a.d) (list_of a.rules.now [] a.u) a.c.nodes a.oldnodes.now c.loop-i.i c.loop-i.v (omega arith) (omega arith) c.loop-i.invariant.1 (kept_so ∙ not-true c.node_kept.result c.if-not-node_kept.true-raw))
 
--- NOT TURNED
-loop-again-2 : tie.Need-loop-preserved-2 invariant-loop decreases-loop
-loop-again-2 c =
-    let at = c.before.before.before.before.before in
-    let a = at.before.before.before.before.before.before.args in
-    (omega arith, turn-kept (graph_of a.oldnodes.now a.oldtext.now [] a.c) (graph_of a.nodes.now a.text.now [] a.d) (list_of a.rules.now [] a.u) a.c.nodes a.oldnodes.now at.loop.i at.loop.v (omega arith) (omega arith) at.loop.invariant.1 (kept_so c.before ∙ not-false c.before.Node-kept.result c.if1.false))
+pub loop-i-preserved : goal.loop-i-preserved
+loop-i-preserved c =
+    let kept_so : node_kept (graph_of c.args.oldnodes.now c.args.oldtext.now [] c.args.c) (graph_of c.args.nodes.now c.args.text.now [] c.args.d) (list_of c.args.rules.now [] c.args.u) (pack (get_or c.args.oldnodes.now (4 * (c.loop-i.i - 1)) 0) 0) ≡ c.node_kept.result =
+      let a = c.args in
+      ap (λ (x : Handle). node_kept (graph_of a.oldnodes.now a.oldtext.now [] a.c) (graph_of a.nodes.now a.text.now [] a.d) (list_of a.rules.now [] a.u) x) (sym c.forward.ensures) ∙ sym c.node_kept.ensures
+    in
+    let a = c.args in
+    (omega arith, turn-kept (graph_of a.oldnodes.now a.oldtext.now [] a.c) (graph_of a.nodes.now a.text.now [] a.d) (list_of a.rules.now [] a.u) a.c.nodes a.oldnodes.now c.loop-i.i c.loop-i.v (omega arith) (omega arith) c.loop-i.invariant.1 (kept_so ∙ not-false c.node_kept.result c.if-not-node_kept.false-raw))
 
 pub returns : goal.returns
 returns c =

@@ -12,10 +12,7 @@ begin-r-requires c =
 pub append_run-requires : goal.append_run-requires
 append_run-requires c =
     let a = c.args in
-    let N = nodes_of a.node_count a.nodes.now in record { node_count_in_bounds = omega arith; members_bound = (
-        rw c.begin-r.ensures (all_fit a.p N max_id a.members.now (omega arith) c.requires.members_bound),
-        rw (← begun_run a.p N a.members.now c.requires.node_count_in_bounds.1 c.begin-r.ensures) c.requires.room_for,
-      ); room_for =  }
+    let N = nodes_of a.node_count a.nodes.now in record { node_count_in_bounds = omega arith; members_bound = rw c.begin-r.ensures (all_fit a.p N max_id a.members.now (omega arith) c.requires.members_bound); room_for = rw (← begun_run a.p N a.members.now c.requires.node_count_in_bounds.1 c.begin-r.ensures) c.requires.room_for }
 
 pub returns : goal.returns
 returns c =

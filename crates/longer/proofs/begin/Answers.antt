@@ -26,14 +26,12 @@ overflow_add-fresh c =
     let N = nodes_of a.count a.nodes.now in
     omega (arith, one_more (long_by a.p N a.first) (largest N + 1), c.requires.first_bound, c.largest_id-fresh.ensures)
 
--- NOT TURNED
-prefix-requires : tie.Need-prefix-requires
-prefix-requires c κs =
-    let a = c.before.before.before.args in
-    fits a.p (nodes_of a.count a.nodes.now) a.first _ _ c.before.len_of_lem.ensures c.largest-id.ensures c.before.before.before.requires.1
+pub prefix-x-requires : goal.prefix-x-requires
+prefix-x-requires c =
+    let a = c.args in
+    fits a.p (nodes_of a.count a.nodes.now) a.first _ _ c.len_of-len.ensures c.largest_id-fresh.ensures c.requires.first_bound
 
--- NOT TURNED
-returns : tie.Need-returns
+pub returns : goal.returns
 returns c =
-    let a = c.before.before.before.before.before.args in
-    begun a.p (nodes_of a.count a.nodes.now) a.first _ _ _ _ c.before.before.before.len_of_lem.ensures c.before.before.largest-id.ensures c.before.prefix.ensures c.first-place.ensures
+    let a = c.args in
+    begun a.p (nodes_of a.count a.nodes.now) a.first _ _ _ _ c.len_of-len.ensures c.largest_id-fresh.ensures c.prefix-x.ensures c.first_place-place.ensures

@@ -6,16 +6,11 @@ use Rattle.store.specs.Graph.{nodes_of}
 use Rattle.longer.proofs.ByMember.{one_place, event-many}
 use Rattle.longer.proofs.count_events.Goals as goal
 
--- NOT TURNED
-sub-result : tie.Need-overflow-sub-result
-sub-result c =
-    let s = c.before.before.before.before.before in
-    rw c.first-place.ensures (one_place (ltb s.args.p c.before.len_of_lem.result) (length s.args.members.now) s.requires.1)
+pub overflow_sub-result : goal.overflow_sub-result
+overflow_sub-result c = rw c.first_place.ensures (one_place (ltb c.args.p c.len_of-len.result) (length c.args.members.now) c.requires.1)
 
--- NOT TURNED
-returns : tie.Need-returns
+pub returns : goal.returns
 returns c =
-    let s = c.before.before.before.before.before in
-    let a = s.args in
-    ap (λ (n : ℕ). length a.members.now - n) c.first-place.ensures
-    ∙ event-many a.p (nodes_of a.node_count a.nodes.now) a.members.now c.before.len_of_lem.result s.requires.1 c.before.len_of_lem.ensures
+    let a = c.args in
+    ap (λ (n : ℕ). length a.members.now - n) c.first_place.ensures
+    ∙ event-many a.p (nodes_of a.node_count a.nodes.now) a.members.now c.len_of-len.result c.requires.1 c.len_of-len.ensures

@@ -10,15 +10,13 @@ use Rattle.longer.proofs.Turns.{count_turn}
 use Rattle.longer.proofs.ByMember.{one_at_most}
 use Rattle.longer.proofs.count_long.Goals as goal
 
--- NOT TURNED
-loop-again : tie.Need-loop-preserved invariant-loop decreases-loop
-loop-again c =
-    let at = c.before.before.before.before in
-    let a = at.before.before.before.args in
-    let i = at.loop.i in
-    let n = at.loop.n in (
-      omega (arith, c.fresh-after.ensures, one_at_most (ltb a.p c.before.len_of_lem.result) n),
-      omega (arith, c.fresh-after.ensures, count_turn a.p (nodes_of a.node_count a.nodes.now) a.members.now i _ (omega arith) c.before.len_of_lem.ensures n),
+pub loop-i-preserved : goal.loop-i-preserved
+loop-i-preserved c =
+    let a = c.args in
+    let i = c.loop-i.i in
+    let n = c.loop-i.n in (
+      omega (arith, c.fresh_after-n.ensures, one_at_most (ltb a.p c.len_of-len.result) n),
+      omega (arith, c.fresh_after-n.ensures, count_turn a.p (nodes_of a.node_count a.nodes.now) a.members.now i _ (omega arith) c.len_of-len.ensures n),
     )
 
 pub returns : goal.returns

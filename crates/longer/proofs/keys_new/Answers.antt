@@ -14,13 +14,12 @@ use Rattle.events.specs.Events.{rules_of}
 use Rattle.longer.proofs.Turns.{key_new, key_told, keys_run}
 use Rattle.longer.proofs.keys_new.Goals as goal
 
--- NOT TURNED
-loop-holds : tie.Need-loop-init invariant-loop decreases-loop
-loop-holds c =
-    let a = c.before.before.before.before.before.before.args in
+pub loop-i-init : goal.loop-i-init
+loop-i-init c =
+    let a = c.args in
     let N = nodes_of a.node_count a.nodes.now in
     let R = rules_of a.rule_count a.rules.now in
-    ap (λ (k : ℕ). all (key_new R N) (drop k (handles_of a.members.now))) (c.first-place.ensures ∙ ap (λ (k : ℕ). cond (ltb a.p k) 0 1) c.before.len_of_lem.ensures)
+    ap (λ (k : ℕ). all (key_new R N) (drop k (handles_of a.members.now))) (c.first_place-i.ensures ∙ ap (λ (k : ℕ). cond (ltb a.p k) 0 1) c.len_of.ensures)
     ∙ sym (keys_run a.p N R a.members.now (omega arith))
 
 pub returns-then-not-no_rule : goal.returns-then-not-no_rule

@@ -10,4 +10,4 @@ returns-then-out-header c =
 pub returns : goal.returns
 returns c =
     let a = c.args in
-    head-written a.text.now a.out.now _ c.parse_header-header.ensures _ _ _ _ c.if-out-header.false c.put_bytes-at.ensures c.put_byte-len.ensures
+    let both = head-written a.text.now a.out.now _ c.parse_header-header.ensures _ _ _ _ c.if-out-header.false c.put_bytes-at.ensures c.put_byte-len.ensures in record { out_after = both.0; len_in_bounds = both.1 }

@@ -6,13 +6,11 @@ use Rattle.desk.proofs.work.finish.Goals as goal
 
 pub returns-then-t-ne0 : goal.returns-then-t-ne0
 returns-then-t-ne0 c =
-    let t = c.print_transformations-t in
     let a = c.args in
-    record { table_after = no_table a.len (lent a.old_nodes.now a.letters.now a.old_links.now a.c) (lent a.nodes.now a.letters.now a.links.now a.d) a.rules.now a.steps.now a.u a.protected.now a.check a.stopped a.table.now _ _ t.ensures _ c.refuse.ensures c.if-t-ne0.true; page_le_len = refusal-inside _ _ _ _ _ c.refuse.ensures }
+    record { table_after = no_table a.len (lent a.old_nodes.now a.letters.now a.old_links.now a.c) (lent a.nodes.now a.letters.now a.links.now a.d) a.rules.now a.steps.now a.u a.protected.now a.check a.stopped a.table.now _ _ c.print_transformations-t.ensures _ c.refuse.ensures c.if-t-ne0.true; page_le_len = refusal-inside _ _ _ _ _ c.refuse.ensures }
 
 pub returns : goal.returns
 returns c =
-    let t = c.print_transformations-t in
     let a = c.args in
-    let i = inside_of _ _ _ t.ensures (table-inside a.old_nodes.now a.letters.now a.old_links.now a.c a.rules.now a.steps.now a.u a.table.now) in
-    record { table_after = finishes a.len (lent a.old_nodes.now a.letters.now a.old_links.now a.c) (lent a.nodes.now a.letters.now a.links.now a.d) a.rules.now a.steps.now a.u a.protected.now a.check a.stopped a.table.now _ _ t.ensures _ c.judge-verdict.ensures c.if-t-ne0.false; page_le_len = (omega arith, i) }
+    let i = inside_of _ _ _ c.print_transformations-t.ensures (table-inside a.old_nodes.now a.letters.now a.old_links.now a.c a.rules.now a.steps.now a.u a.table.now) in
+    record { table_after = finishes a.len (lent a.old_nodes.now a.letters.now a.old_links.now a.c) (lent a.nodes.now a.letters.now a.links.now a.d) a.rules.now a.steps.now a.u a.protected.now a.check a.stopped a.table.now _ _ c.print_transformations-t.ensures _ c.judge-verdict.ensures c.if-t-ne0.false; page_le_len = (omega arith, i) }

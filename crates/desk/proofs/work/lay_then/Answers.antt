@@ -19,6 +19,5 @@ shape_of-nodes c = c.nodes-2-1.given ∙ c.nodes-1.given
 
 pub returns : goal.returns
 returns c =
-    let t = c.drive_then in
     let a = c.args in
-    record { table_after = lays a.text.now (lent a.old_nodes.now a.letters.now a.old_links.now a.c) (collapsing.lent a.nodes.now a.links.now a.event_rules.now a.event_steps.now) a.protected.now a.check a.rules.now a.steps.now a.page.now a.table.now c.if-nodes-old_nodes.false _ _ c.put_front.ensures c.put_front-2.ensures _ t.ensures.0 c.if-links-old_links.false; page_in_bounds = t.ensures.1 }
+    record { table_after = lays a.text.now (lent a.old_nodes.now a.letters.now a.old_links.now a.c) (collapsing.lent a.nodes.now a.links.now a.event_rules.now a.event_steps.now) a.protected.now a.check a.rules.now a.steps.now a.page.now a.table.now c.if-nodes-old_nodes.false _ _ c.put_front.ensures c.put_front-2.ensures _ c.drive_then.ensures.table_after c.if-links-old_links.false; page_in_bounds = c.drive_then.ensures.page_in_bounds }

@@ -19,6 +19,5 @@ shape_of-old_links c = c.old_links-1.given
 
 pub returns : goal.returns
 returns c =
-    let t = c.lay_then in
     let a = c.args in
-    record { table_after = works a.text.now a.protected.now a.check (store a.old_nodes.now a.letters.now a.old_links.now) (collapsing.lent a.nodes.now a.links.now a.event_rules.now a.event_steps.now) a.rules.now a.steps.now a.page.now a.table.now _ _ c.take_in-r.ensures _ t.ensures.0 c.if-r-ne0.false; page_in_bounds = t.ensures.1 }
+    record { table_after = works a.text.now a.protected.now a.check (store a.old_nodes.now a.letters.now a.old_links.now) (collapsing.lent a.nodes.now a.links.now a.event_rules.now a.event_steps.now) a.rules.now a.steps.now a.page.now a.table.now _ _ c.take_in-r.ensures _ c.lay_then.ensures.table_after c.if-r-ne0.false; page_in_bounds = c.lay_then.ensures.page_in_bounds }

@@ -21,7 +21,7 @@ pub returns-then-begins_with_h : goal.returns-then-begins_with_h
 returns-then-begins_with_h c =
     let a = c.args in
     let yes = sym c.begins_with_h.ensures ∙ c.if-begins_with_h.true in
-    both a.text.now a.fallback.now _ (part-here c.piece_end-end.ensures a.fallback.now c.loop-at.invariant.1 yes)
+    let both = both a.text.now a.fallback.now _ (part-here c.piece_end-end.ensures a.fallback.now c.loop-at.invariant.1 yes) in record { value = both.0; fallback_value = both.1 }
 
 pub returns-then-end-text : goal.returns-then-end-text
 returns-then-end-text c =
@@ -31,7 +31,7 @@ returns-then-end-text c =
       part-later c.piece_end-end.ensures a.fallback.now c.loop-at.invariant.1 no
     in
     let a = c.args in
-    both a.text.now a.fallback.now _ (rw (eq-eqb _ _ c.if-end-text.true) at (later))
+    let both = both a.text.now a.fallback.now _ (rw (eq-eqb _ _ c.if-end-text.true) at (later)) in record { value = both.0; fallback_value = both.1 }
 
 pub loop-at-preserved : goal.loop-at-preserved
 loop-at-preserved c =

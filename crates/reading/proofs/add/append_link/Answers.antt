@@ -11,11 +11,7 @@ use Rattle.reading.proofs.More.{link_full, link-stored}
 use Rattle.reading.proofs.add.append_link.Goals as goal
 
 pub returns-then-not-link_fits : goal.returns-then-not-link_fits
-returns-then-not-link_fits c =
-    let a = c.args in (
-      (refl, c.requires.links_in_bounds),
-      λ nodes letters l g h. link_full h (edge a.u a.v) c.requires.links_value c.link_fits.ensures (not-true _ c.if-not-link_fits.true-raw),
-    )
+returns-then-not-link_fits c = let a = c.args in record { nodes_value = (refl, c.requires.links_in_bounds); by_index = λ nodes letters l g h. link_full h (edge a.u a.v) c.requires.links_value c.link_fits.ensures (not-true _ c.if-not-link_fits.true-raw) }
 
 pub push_link-requires : goal.push_link-requires
 push_link-requires c =
@@ -39,8 +35,5 @@ returns c =
       let a = c.args in
       (room_says [] [] a.links.now (counts 0 0 (a.c.links + 1)) (sym c.link_fits.ensures ∙ not-false _ c.if-not-link_fits.false-raw)).link_room
     in
-    let a = c.args in (
-    (refl, omega (arith, fits)),
-    λ nodes letters l g h.
-    link-stored h (edge a.u a.v) c.requires.links_value c.link_fits.ensures (not-false _ c.if-not-link_fits.false-raw) c.written-w.ensures c.push_link.ensures,
-    )
+    let a = c.args in record { nodes_value = (refl, omega (arith, fits)); by_index = λ nodes letters l g h.
+    link-stored h (edge a.u a.v) c.requires.links_value c.link_fits.ensures (not-false _ c.if-not-link_fits.false-raw) c.written-w.ensures c.push_link.ensures }

@@ -10,11 +10,7 @@ use Rattle.reading.proofs.More.{segment_full, segment_stored}
 use Rattle.reading.proofs.add.append_segment.Goals as goal
 
 pub returns-then-not-segment_fits : goal.returns-then-not-segment_fits
-returns-then-not-segment_fits c =
-    let a = c.args in (
-      c.requires.nodes_in_bounds,
-      λ links l g h. segment_full h a.id a.s.now c.requires.nodes_value c.segment_fits.ensures (not-true _ c.if-not-segment_fits.true-raw),
-    )
+returns-then-not-segment_fits c = let a = c.args in record { nodes_in_bounds_2 = c.requires.nodes_in_bounds; on_segments = λ links l g h. segment_full h a.id a.s.now c.requires.nodes_value c.segment_fits.ensures (not-true _ c.if-not-segment_fits.true-raw) }
 
 pub push_node-requires : goal.push_node-requires
 push_node-requires c =
@@ -47,8 +43,5 @@ returns c =
       let a = c.args in
       room_says a.nodes.now a.letters.now [] (counts (a.c.nodes + 1) (a.c.letters + length a.s.now) 0) (sym c.segment_fits.ensures ∙ not-false _ c.if-not-segment_fits.false-raw)
     in
-    let a = c.args in (
-    (omega (arith, (fits).node_room), omega (arith, (fits).letter_room, c.put_bytes-end.ensures.place)),
-    λ links l g h.
-    segment_stored h a.id a.s.now c.requires.nodes_value c.segment_fits.ensures (not-false _ c.if-not-segment_fits.false-raw) c.push_node.ensures c.put_bytes-end.ensures.bytes c.put_bytes-end.ensures.place,
-    )
+    let a = c.args in record { nodes_in_bounds_2 = (omega (arith, (fits).node_room), omega (arith, (fits).letter_room, c.put_bytes-end.ensures.place)); on_segments = λ links l g h.
+    segment_stored h a.id a.s.now c.requires.nodes_value c.segment_fits.ensures (not-false _ c.if-not-segment_fits.false-raw) c.push_node.ensures c.put_bytes-end.ensures.bytes c.put_bytes-end.ensures.place }

@@ -18,10 +18,7 @@ returns-then-not-is_line c =
     let number : c.line_number-why.result.number ≡ line_number c.args.line.now =
       ap (λ (r : Refusal). r.number) c.line_number-why.ensures
     in
-    (
-    c.requires,
-    λ links l g h. one-other h c.args.line.now (number) c.if-why-ne0.false (sym c.is_line.ensures ∙ not-true _ c.if-not-is_line.true-raw),
-    )
+    record { nodes_in_bounds = c.requires; on_segments = λ links l g h. one-other h c.args.line.now (number) c.if-why-ne0.false (sym c.is_line.ensures ∙ not-true _ c.if-not-is_line.true-raw) }
 
 pub add_segment-requires : goal.add_segment-requires
 add_segment-requires c = c.requires
@@ -31,11 +28,8 @@ returns c =
     let number : c.line_number-why.result.number ≡ line_number c.args.line.now =
       ap (λ (r : Refusal). r.number) c.line_number-why.ensures
     in
-    (
-    c.add_segment.ensures.nodes_in_bounds,
-    λ links l g h.
+    record { nodes_in_bounds = c.add_segment.ensures.nodes_in_bounds; on_segments = λ links l g h.
     one_segment h c.args.line.now (number) c.if-why-ne0.false (sym c.is_line.ensures ∙ not-false _ c.if-not-is_line.false-raw)
     (c.name_id-id.ensures ∙ ap name_id c.field.ensures)
     c.field-2.ensures
-    (c.add_segment.ensures.on_segments links l g h),
-    )
+    (c.add_segment.ensures.on_segments links l g h) }

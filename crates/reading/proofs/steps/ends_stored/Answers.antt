@@ -13,22 +13,17 @@ use Rattle.reading.proofs.steps.ends_stored.Goals as goal
 abbrev both : List Node → Edge → Bool
 both rs e = all_stored rs (e.from ∷ e.to ∷ [])
 
--- NOT TURNED
-returns : tie.Need-returns
-returns c =
-    let e = c.before.before.before.before.Edge-of in
-    let a = c.before.before.before.before.before.before.before.args in
+pub returns-then-not-is_stored : goal.returns-then-not-is_stored
+returns-then-not-is_stored c =
+    let a = c.args in
     let rs = nodes_of a.count a.nodes.now in
-    end_absent (stored (id_of e.result.from) rs) (stored (id_of e.result.to) rs) (sym c.before.is_stored.ensures ∙ not-true _ c.if1.true)
-    ∙ ap (both rs) e.ensures
+    end_absent (stored (id_of c.edge_of-e.result.from) rs) (stored (id_of c.edge_of-e.result.to) rs) (sym c.is_stored.ensures ∙ not-true _ c.if-not-is_stored.true-raw)
+    ∙ ap (both rs) c.edge_of-e.ensures
 
--- NOT TURNED
-returns-2 : tie.Need-returns-2
-returns-2 c =
-    let n = c.before in
-    let e = n.before.before.before.before.Edge-of in
-    let a = n.before.before.before.before.before.before.before.args in
+pub returns : goal.returns
+returns c =
+    let a = c.args in
     let rs = nodes_of a.count a.nodes.now in
-    c.is-stored2.ensures
-    ∙ end_there (stored (id_of e.result.from) rs) (stored (id_of e.result.to) rs) (sym n.before.is_stored.ensures ∙ not-false _ n.if1.false)
-    ∙ ap (both rs) e.ensures
+    c.is_stored-2.ensures
+    ∙ end_there (stored (id_of c.edge_of-e.result.from) rs) (stored (id_of c.edge_of-e.result.to) rs) (sym c.is_stored.ensures ∙ not-false _ c.if-not-is_stored.false-raw)
+    ∙ ap (both rs) c.edge_of-e.ensures

@@ -25,4 +25,4 @@ loop-at-preserved c =
     )
 
 pub returns : goal.returns
-returns c = rw (drop_of_length-le c.args.walk.now c.loop-at-test.false) c c.loop-at.invariant.1
+returns c = rw (drop_of_length-le c.args.walk.now c.loop-at-test.false) at c.loop-at.invariant.1

@@ -125,4 +125,7 @@ returns c =
     let no_6 : same_file (words_of c.args.words.now) ≡ false =
       sym c.same_file.ensures ∙ c.if-same_file.false
     in
-    rw (no_1, no_2, no_3, no_4, no_5, no_6, no_7 (c))
+    let no_7 : shared_input (words_of c.args.words.now) ≡ false =
+      sym c.shared_input.ensures ∙ c.if-shared_input.false
+    in
+    rw (no_1, no_2, no_3, no_4, no_5, no_6, no_7)

@@ -120,8 +120,7 @@ returns-then-not-room_for_rules c =
     in
     let fits : c.room_for_rules.result ≡ table_fits (expanded (list_of c.args.rules.now c.args.steps.now c.args.u)) c.args.out_rules.now c.args.out_steps.now =
       let a = c.args in
-      let m = c.measure-total in
-      c.room_for_rules.ensures ∙ room-same a.rules.now a.steps.now a.u _ a.out_rules.now a.out_steps.now (record { rules = a.u.rules; steps = m.result }) refl m.ensures
+      c.room_for_rules.ensures ∙ room-same a.rules.now a.steps.now a.u _ a.out_rules.now a.out_steps.now (record { rules = a.u.rules; steps = c.measure-total.result }) refl c.measure-total.ensures
     in
     let a = c.args in
     ap (λ (r : Expanded). outcome r a.out_rules.now a.out_steps.now) c.refuse-then-not-room_for_rules.ensures
@@ -139,15 +138,14 @@ write_table-requires c =
     let ordered : in_order (list_of c.args.rules.now c.args.steps.now c.args.u) ≡ true =
       sym c.in_order.ensures ∙ not-false _ c.if-not-in_order.false-raw
     in
-    let ready : Buildable c.args.rules.now c.args.steps.now c.args.u c.measure-total.new.1.1.1.0 c.args.out_rules.now c.args.out_steps.now (record { rules = c.args.u.rules; steps = c.measure-total.result }) =
+    let ready : Buildable c.args.rules.now c.args.steps.now c.args.u c.measure-total.new.lens c.args.out_rules.now c.args.out_steps.now (record { rules = c.args.u.rules; steps = c.measure-total.result }) =
       let a = c.args in
-      let m = c.measure-total in
       record {
       formed = table;
       ordered = ordered;
       count = refl;
       room = sym c.room_for_rules.ensures ∙ not-false _ c.if-not-room_for_rules.false-raw;
-      measured = m.ensures;
+      measured = c.measure-total.ensures;
       }
     in
     ready
@@ -164,15 +162,14 @@ returns c =
     let ordered : in_order (list_of c.args.rules.now c.args.steps.now c.args.u) ≡ true =
       sym c.in_order.ensures ∙ not-false _ c.if-not-in_order.false-raw
     in
-    let ready : Buildable c.args.rules.now c.args.steps.now c.args.u c.measure-total.new.1.1.1.0 c.args.out_rules.now c.args.out_steps.now (record { rules = c.args.u.rules; steps = c.measure-total.result }) =
+    let ready : Buildable c.args.rules.now c.args.steps.now c.args.u c.measure-total.new.lens c.args.out_rules.now c.args.out_steps.now (record { rules = c.args.u.rules; steps = c.measure-total.result }) =
       let a = c.args in
-      let m = c.measure-total in
       record {
       formed = table;
       ordered = ordered;
       count = refl;
       room = sym c.room_for_rules.ensures ∙ not-false _ c.if-not-room_for_rules.false-raw;
-      measured = m.ensures;
+      measured = c.measure-total.ensures;
       }
     in
     let once : keys_once (rules_of c.args.u.rules c.args.rules.now) ≡ true =
@@ -180,8 +177,7 @@ returns c =
     in
     let fits : c.room_for_rules.result ≡ table_fits (expanded (list_of c.args.rules.now c.args.steps.now c.args.u)) c.args.out_rules.now c.args.out_steps.now =
       let a = c.args in
-      let m = c.measure-total in
-      c.room_for_rules.ensures ∙ room-same a.rules.now a.steps.now a.u _ a.out_rules.now a.out_steps.now (record { rules = a.u.rules; steps = m.result }) refl m.ensures
+      c.room_for_rules.ensures ∙ room-same a.rules.now a.steps.now a.u _ a.out_rules.now a.out_steps.now (record { rules = a.u.rules; steps = c.measure-total.result }) refl c.measure-total.ensures
     in
     let a = c.args in
     let b = ready in

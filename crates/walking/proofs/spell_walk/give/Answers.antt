@@ -52,5 +52,4 @@ returns c =
     let letters = spell_walk (graph_of a.nodes.now a.text.now [] a.c) (handles_of a.walk.now) in
     let n = walk_len (nodes_of a.c.nodes a.nodes.now) (handles_of a.walk.now) in
     let e = spelled-length a.nodes.now a.text.now a.c c.requires (handles_of a.walk.now) in
-    let k = c.length-1 in
-    ap (outcome (answer 0 0 k.given.0.0)) c.write_spelling.ensures ∙ sym (stands letters a.out.now n e k.given.0.0 (sym c.spelled_len.ensures ∙ k.given.1))
+    ap (outcome (answer 0 0 c.in-At.length)) c.write_spelling.ensures ∙ sym (stands letters a.out.now n e c.in-At.length (sym c.spelled_len.ensures ∙ c.in-At.is))
