@@ -34,7 +34,7 @@ pub try_group-n-requires : goal.try_group-n-requires
 try_group-n-requires c = (c.requires.0, omega (arith, c.requires.1, c.loop-c.invariant.0))
 
 pub shape_of-members-then-n-ne0 : goal.shape_of-members-then-n-ne0
-shape_of-members-then-n-ne0 c = c.try_group-n.auto.1.1.1.1.1.1.1.0 ∙ c.loop-c.invariant.0
+shape_of-members-then-n-ne0 c = c.try_group-n.auto.members ∙ c.loop-c.invariant.0
 
 pub returns-then-n-ne0 : goal.returns-then-n-ne0
 returns-then-n-ne0 c =
@@ -64,4 +64,4 @@ loop-c-preserved c =
     let a = c.args in
     let g : Graph = graph_of a.nodes.now a.text.now a.links.now a.c in
     let u = c.next_head-u.result in
-    (c.try_group-n.auto.1.1.1.1.1.1.1.0 ∙ c.loop-c.invariant.0, turn_none g a.protected.now (group_of g (right_of g a.v) (handle u) ∷ []) (left g a.v u) (ap (map (group_of g (right_of g a.v))) (step).rest) c.loop-c.invariant.1 c.try_group-n.ensures c.if-n-ne0.false)
+    (c.try_group-n.auto.members ∙ c.loop-c.invariant.0, turn_none g a.protected.now (group_of g (right_of g a.v) (handle u) ∷ []) (left g a.v u) (ap (map (group_of g (right_of g a.v))) (step).rest) c.loop-c.invariant.1 c.try_group-n.ensures c.if-n-ne0.false)

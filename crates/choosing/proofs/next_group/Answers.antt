@@ -37,7 +37,7 @@ pub group_of-n-requires : goal.group_of-n-requires
 group_of-n-requires c = (c.requires.0, omega (arith, c.requires.1, c.loop-c.invariant.0))
 
 pub shape_of-members-then-n-ne0 : goal.shape_of-members-then-n-ne0
-shape_of-members-then-n-ne0 c = c.group_of-n.auto.1.1.1.1.1.1.0 ∙ c.loop-c.invariant.0
+shape_of-members-then-n-ne0 c = c.group_of-n.auto.members ∙ c.loop-c.invariant.0
 
 pub returns-then-n-ne0 : goal.returns-then-n-ne0
 returns-then-n-ne0 c =
@@ -67,4 +67,4 @@ loop-c-preserved c =
     let a = c.args in
     let g : Graph = graph_of a.nodes.now a.text.now a.links.now a.c in
     let v = c.next_scan-v.result in
-    (c.group_of-n.auto.1.1.1.1.1.1.0 ∙ c.loop-c.invariant.0, turn_none g a.protected.now (groups_of g (handle v)) (lines (groups_of g) (rest_above v (scan_order g.nodes))) (ap (lines (groups_of g)) (step).rest) c.loop-c.invariant.1 c.group_of-n.ensures c.if-n-ne0.false)
+    (c.group_of-n.auto.members ∙ c.loop-c.invariant.0, turn_none g a.protected.now (groups_of g (handle v)) (lines (groups_of g) (rest_above v (scan_order g.nodes))) (ap (lines (groups_of g)) (step).rest) c.loop-c.invariant.1 c.group_of-n.ensures c.if-n-ne0.false)

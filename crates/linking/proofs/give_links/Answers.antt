@@ -43,13 +43,11 @@ suffix_of-requires c = c.requires.m_bound.1 (not-false c.args.long c.if-not-long
 
 pub add_link-requires : goal.add_link-requires
 add_link-requires c =
-    let n = c.n-1.given in
-    let h = made-count n.0.0 c.split_off.ensures n.1 in
+    let h = made-count c.in-Count.n c.split_off.ensures c.in-Count.is in
     omega (arith, h.room, holds_size h)
 
 pub returns : goal.returns
 returns c =
-    let n = c.n-1.given in
     let a = c.args in
     rw (not-false a.long c.if-not-long.false-raw)
-    (given a.x a.m a.fresh (links_of a.count a.links.now) n.0.0 c.suffix_of.result (made-count n.0.0 (rw c.id.ensures at c.split_off.ensures) n.1) c.suffix_of.ensures c.add_link.ensures)
+    (given a.x a.m a.fresh (links_of a.count a.links.now) c.in-Count.n c.suffix_of.result (made-count c.in-Count.n (rw c.id.ensures at c.split_off.ensures) c.in-Count.is) c.suffix_of.ensures c.add_link.ensures)

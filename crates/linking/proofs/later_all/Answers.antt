@@ -79,8 +79,7 @@ loop-i-preserved c =
     let met : Met c.args.p (nodes_of c.args.node_count c.args.nodes.now) c.args.x c.args.fresh c.args.links.now c.args.count (map handle c.args.members.now) c.loop-i.links c.loop-i.n c.loop-i.next c.loop-i.i (handle (get_or c.args.members.now c.loop-i.i 0)) c.is_long-long.result =
       record { inv = c.loop-i.invariant; front = left_member c.args.members.now c.loop-i.i (omega arith); long_is = c.is_long-long.ensures }
     in
-    let n = c.more-1.given in
-    turn (met) n.0.0 c.fresh_after-next.result (made-count n.0.0 c.later_links.ensures n.1) c.fresh_after-next.ensures
+    turn (met) c.in-Count.more c.fresh_after-next.result (made-count c.in-Count.more c.later_links.ensures c.in-Count.is) c.fresh_after-next.ensures
 
 pub returns : goal.returns
 returns c =

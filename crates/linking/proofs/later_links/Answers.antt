@@ -29,11 +29,9 @@ prefix_of-prefix-requires c = c.requires.m_bound.1
 
 pub bury_links-requires : goal.bury_links-requires
 bury_links-requires c =
-    let n = c.n-1.given in
-    let h = made-count n.0.0 c.give_links.ensures n.1 in
+    let h = made-count c.in-Count.n c.give_links.ensures c.in-Count.is in
     omega (arith, h.room, holds_size h)
 
 pub returns : goal.returns
 returns c =
-    let n = c.n-1.given in
-    made (buries c.id.result (id_of (prefix_if c.args.long c.args.fresh c.args.m)) (made-count n.0.0 c.give_links.ensures n.1) (c.id.ensures ∙ ap id_of c.prefix_of-prefix.ensures) c.bury_links.ensures)
+    made (buries c.id.result (id_of (prefix_if c.args.long c.args.fresh c.args.m)) (made-count c.in-Count.n c.give_links.ensures c.in-Count.is) (c.id.ensures ∙ ap id_of c.prefix_of-prefix.ensures) c.bury_links.ensures)

@@ -75,13 +75,11 @@ loop-m-smaller c =
     let met : Met c.args.links.now c.args.count c.args.m c.args.x c.loop-m.links c.loop-m.n c.loop-m.above c.next_unmarked-y.result c.read_as-to.result =
       record { inv = c.loop-m.invariant; away = c.requires.m_value.0; next_is = c.next_unmarked-y.ensures; some = c.if-y-eq0.false; to_is = c.read_as-to.ensures }
     in
-    let n = c.more-1.given in
-    less (met) n.0.0 (made-count n.0.0 c.add_link.ensures n.1)
+    less (met) c.in-Count.more (made-count c.in-Count.more c.add_link.ensures c.in-Count.is)
 
 pub loop-m-preserved : goal.loop-m-preserved
 loop-m-preserved c =
     let met : Met c.args.links.now c.args.count c.args.m c.args.x c.loop-m.links c.loop-m.n c.loop-m.above c.next_unmarked-y.result c.read_as-to.result =
       record { inv = c.loop-m.invariant; away = c.requires.m_value.0; next_is = c.next_unmarked-y.ensures; some = c.if-y-eq0.false; to_is = c.read_as-to.ensures }
     in
-    let n = c.more-1.given in
-    turn (met) n.0.0 (made-count n.0.0 c.add_link.ensures n.1)
+    turn (met) c.in-Count.more (made-count c.in-Count.more c.add_link.ensures c.in-Count.is)

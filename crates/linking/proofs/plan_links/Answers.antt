@@ -116,8 +116,7 @@ later_all-requires c =
       long_is = c.is_long-long.ensures;
       }
     in
-    let n = c.n-1.given in
-    let h = made-count n.0.0 c.alone_links.ensures n.1 in
+    let h = made-count c.in-Count.n c.alone_links.ensures c.in-Count.is in
     record { node_count_in_bounds = (c.requires.node_count_in_bounds.0, omega (arith, h.room, holds_size h)); later = rw (holds_links h) (later (known) c.prefix_of-x.result c.fresh_after-next.result c.prefix_of-x.ensures c.fresh_after-next.ensures) }
 
 pub returns : goal.returns
@@ -129,5 +128,4 @@ returns c =
       long_is = c.is_long-long.ensures;
       }
     in
-    let n = c.n-1.given in
-    planned_so (known) c.prefix_of-x.result c.fresh_after-next.result c.prefix_of-x.ensures c.fresh_after-next.ensures n.0.0 (made-count n.0.0 c.alone_links.ensures n.1) c.later_all.ensures
+    planned_so (known) c.prefix_of-x.result c.fresh_after-next.result c.prefix_of-x.ensures c.fresh_after-next.ensures c.in-Count.n (made-count c.in-Count.n c.alone_links.ensures c.in-Count.is) c.later_all.ensures
