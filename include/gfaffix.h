@@ -1,6 +1,6 @@
 /* gfaffix.h: the operations of GFAffix in Rattle, for C and C++.
  *
- * Link with target/staticlib/libface.a, which `rt staticlib face` writes (x86-64 Linux, System V calling convention).
+ * Link with crates/face/out/libface.a, which `rt lib` in crates/face writes (x86-64 Linux, System V calling convention).
  * Every function here is `gfaffix_NAME` in crates/face/src/NAME.rt, with the contract that the operation NAME has; what
  * each one does in full, and where its definition stands, is in docs/OPERATIONS.md. Nothing checks this file against
  * crates/face: docs/TRUST.md says what is taken on trust at this border.

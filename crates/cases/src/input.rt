@@ -7,7 +7,7 @@ use crate::stream;
 use crate::stream::{END, Source};
 
 // A number that was read, or what stood there instead (ok is false).
-#[derive(Clone, Copy)]
+#[derive(Drop)]
 pub struct Taken {
     pub ok: bool,
     pub value: u64,
@@ -15,14 +15,14 @@ pub struct Taken {
 }
 
 // How many numbers of an array, or bytes of a word, were read; 0 where they were not to be had (ok is false).
-#[derive(Clone, Copy)]
+#[derive(Drop)]
 pub struct Filled {
     pub ok: bool,
     pub count: usize,
     pub source: Source,
 }
 
-#[derive(Clone, Copy)]
+#[derive(Drop)]
 enum Grown {
     To(u64),
     Over,
@@ -58,12 +58,12 @@ fn stops(last: u64) -> bool {
 }
 
 // A run of digits and the byte after it.
-fn digits(buf: &mut [u8], s: Source) -> Taken {
+fn digits(rt: &impl Input, buf: &mut [u8], s: Source) -> Taken {
     let mut source = s;
     let mut value: u64 = 0;
     let mut seen: usize = 0;
     while seen < 21 {
-        source = stream::advance(buf, source);
+        source = stream::advance(rt, buf, source);
         let last = source.last;
         if last < 48 {
             return Taken {
@@ -97,9 +97,9 @@ fn digits(buf: &mut [u8], s: Source) -> Taken {
 }
 
 // The next number of the line; none where the line has ended.
-fn number(buf: &mut [u8], s: Source) -> Taken {
+fn number(rt: &impl Input, buf: &mut [u8], s: Source) -> Taken {
     if s.last == SPACE {
-        return digits(buf, s);
+        return digits(rt, buf, s);
     }
     Taken {
         ok: false,
@@ -109,9 +109,9 @@ fn number(buf: &mut [u8], s: Source) -> Taken {
 }
 
 // How often the number stands: what follows its `*`, else once.
-fn times(buf: &mut [u8], s: Source) -> Taken {
+fn times(rt: &impl Input, buf: &mut [u8], s: Source) -> Taken {
     if s.last == TIMES {
-        return digits(buf, s);
+        return digits(rt, buf, s);
     }
     Taken {
         ok: true,
@@ -136,14 +136,21 @@ fn fill(out: &mut [u64], from: usize, count: usize, value: u64) {
 }
 
 // One number and how often it stands, put into `out` from `from` on; at most `most` of them.
-fn element(buf: &mut [u8], s: Source, out: &mut [u64], from: usize, most: usize) -> Filled
+fn element(
+    rt: &impl Input,
+    buf: &mut [u8],
+    s: Source,
+    out: &mut [u64],
+    from: usize,
+    most: usize,
+) -> Filled
     ensures { result.count ≤ most }
 {
-    let e = number(buf, s);
+    let e = number(rt, buf, s);
     if !e.ok {
         return bad(e.source);
     }
-    let t = times(buf, e.source);
+    let t = times(rt, buf, e.source);
     if !t.ok {
         return bad(t.source);
     }
@@ -161,7 +168,7 @@ fn element(buf: &mut [u8], s: Source, out: &mut [u64], from: usize, most: usize)
 }
 
 // All numbers of the line.
-pub fn numbers(buf: &mut [u8], s: Source, out: &mut [u64]) -> Filled
+pub fn numbers(rt: &impl Input, buf: &mut [u8], s: Source, out: &mut [u64]) -> Filled
     ensures { (result.count ≤ length out.new) × (result.ok ≡ true → line_ends result.source.last ≡ true) }
 {
     let mut source = s;
@@ -174,7 +181,7 @@ pub fn numbers(buf: &mut [u8], s: Source, out: &mut [u64]) -> Filled
                 source,
             };
         }
-        let e = element(buf, source, out, i, out.len() - i);
+        let e = element(rt, buf, source, out, i, out.len() - i);
         source = e.source;
         if e.count < 1 {
             return bad(source);
@@ -195,7 +202,7 @@ fn bad(source: Source) -> Filled
 }
 
 // A word up to the next space or the line's end; too long a word is none.
-pub fn word(buf: &mut [u8], s: Source, out: &mut [u8]) -> Filled
+pub fn word(rt: &impl Input, buf: &mut [u8], s: Source, out: &mut [u8]) -> Filled
     ensures { result.count ≤ length out.new }
 {
     let mut source = s;
@@ -214,7 +221,7 @@ pub fn word(buf: &mut [u8], s: Source, out: &mut [u8]) -> Filled
         }
         out[i] = last as u8;
         i += 1;
-        source = stream::advance(buf, source);
+        source = stream::advance(rt, buf, source);
     }
     bad(source)
 }

@@ -4,70 +4,70 @@ ghost use Rattle.cases.specs.Answers.{Room};
 
 use crate::{faults, lend, parts};
 use events::Used;
-use libc::STDOUT_FILENO;
 use store::Counts;
 
-// What was written leaves the buffer where fewer than 32 bytes are free; the place to go on at.
-fn room(out: &[u8], at: usize) -> usize
+// What was written leaves the buffer where fewer than 32 bytes are free, whether or not it can be printed; the place to go
+// on at.
+fn room(rt: &impl Print, out: &[u8], at: usize) -> usize
     requires { Room at out.now }
     ensures { result + 32 ≤ length out.now }
 {
     if out.len() - at < 32 {
-        io::write_all(STDOUT_FILENO, &out[..at]);
+        let _ = rt.write_all(&out[..at]);
         return 0;
     }
     at
 }
 
-pub fn put_byte(out: &mut [u8], at: usize, b: u8) -> usize
+pub fn put_byte(rt: &impl Print, out: &mut [u8], at: usize, b: u8) -> usize
     requires { Room at out.old }
     ensures { Room result out.new }
 {
-    let from = room(out, at);
+    let from = room(rt, out, at);
     out[from] = b;
     from + 1
 }
 
-pub fn put_number(out: &mut [u8], at: usize, n: u64) -> usize
+pub fn put_number(rt: &impl Print, out: &mut [u8], at: usize, n: u64) -> usize
     requires { Room at out.old }
     ensures { Room result out.new }
 {
-    let from = room(out, at);
+    let from = room(rt, out, at);
     kit::put_decimal(out, from, n)
 }
 
 // A space and a number.
-pub fn put_next(out: &mut [u8], at: usize, n: u64) -> usize
+pub fn put_next(rt: &impl Print, out: &mut [u8], at: usize, n: u64) -> usize
     requires { Room at out.old }
     ensures { Room result out.new }
 {
-    let from = put_byte(out, at, b' ');
-    put_number(out, from, n)
+    let from = put_byte(rt, out, at, b' ');
+    put_number(rt, out, from, n)
 }
 
-pub fn put_two(out: &mut [u8], at: usize, a: u64, b: u64) -> usize
+pub fn put_two(rt: &impl Print, out: &mut [u8], at: usize, a: u64, b: u64) -> usize
     requires { Room at out.old }
     ensures { Room result out.new }
 {
-    let to = put_number(out, at, a);
-    put_next(out, to, b)
+    let to = put_number(rt, out, at, a);
+    put_next(rt, out, to, b)
 }
 
-pub fn put_counts(out: &mut [u8], at: usize, c: Counts) -> usize
+pub fn put_counts(rt: &impl Print, out: &mut [u8], at: usize, c: Counts) -> usize
     requires { Room at out.old }
     ensures { Room result out.new }
 {
-    let a = put_next(out, at, c.nodes as u64);
-    let b = put_next(out, a, c.letters as u64);
-    put_next(out, b, c.links as u64)
+    let a = put_next(rt, out, at, c.nodes as u64);
+    let b = put_next(rt, out, a, c.letters as u64);
+    put_next(rt, out, b, c.links as u64)
 }
 
-pub fn put_used(out: &mut [u8], at: usize, u: Used) -> usize
+pub fn put_used(rt: &impl Print, out: &mut [u8], at: usize, u: Used) -> usize
     requires { Room at out.old }
     ensures { Room result out.new }
 {
-    let a = put_next(out, at, u.rules as u64);
-    put_next(out, a, u.steps as u64)
+    let a = put_next(rt, out, at, u.rules as u64);
+    put_next(rt, out, a, u.steps as u64)
 }
 
 // How many numbers from i on equal the one at i.
@@ -86,20 +86,20 @@ fn run(numbers: &[u64], i: usize) -> usize
 }
 
 // A space and a number, with `*` and how often it stands where that is more than once.
-fn put_run(out: &mut [u8], at: usize, value: u64, n: u64) -> usize
+fn put_run(rt: &impl Print, out: &mut [u8], at: usize, value: u64, n: u64) -> usize
     requires { Room at out.old }
     ensures { Room result out.new }
 {
-    let next = put_next(out, at, value);
+    let next = put_next(rt, out, at, value);
     if n == 1 {
         return next;
     }
-    let from = put_byte(out, next, b'*');
-    put_number(out, from, n)
+    let from = put_byte(rt, out, next, b'*');
+    put_number(rt, out, from, n)
 }
 
 // Numbers with a space before each, equal ones in a row as a run.
-pub fn put_elements(out: &mut [u8], at: usize, numbers: &[u64]) -> usize
+pub fn put_elements(rt: &impl Print, out: &mut [u8], at: usize, numbers: &[u64]) -> usize
     requires { Room at out.old }
     ensures { Room result out.new }
 {
@@ -107,37 +107,51 @@ pub fn put_elements(out: &mut [u8], at: usize, numbers: &[u64]) -> usize
     let mut i: usize = 0;
     while i < numbers.len() {
         let n = run(numbers, i);
-        to = put_run(out, to, numbers[i], n as u64);
+        to = put_run(rt, out, to, numbers[i], n as u64);
         i += n;
     }
     to
 }
 
 // A lent array: a space, its length, then its numbers.
-pub fn put_array(out: &mut [u8], at: usize, numbers: &[u64]) -> usize
+pub fn put_array(rt: &impl Print, out: &mut [u8], at: usize, numbers: &[u64]) -> usize
     requires { Room at out.old }
     ensures { Room result out.new }
 {
-    let to = put_next(out, at, numbers.len() as u64);
-    put_elements(out, to, numbers)
+    let to = put_next(rt, out, at, numbers.len() as u64);
+    put_elements(rt, out, to, numbers)
 }
 
 // The arrays among the first k items of a case, as they were given.
-pub fn put_given(out: &mut [u8], at: usize, numbers: &[u64], shape: &[u8], k: usize) -> usize
+pub fn put_given(
+    rt: &impl Print,
+    out: &mut [u8],
+    at: usize,
+    numbers: &[u64],
+    shape: &[u8],
+    k: usize,
+) -> usize
     requires { Room at out.old }
     ensures { Room result out.new }
 {
     let mut to = at;
     let mut i: usize = 0;
     while i < k {
-        to = put_item(out, to, numbers, shape, i);
+        to = put_item(rt, out, to, numbers, shape, i);
         i += 1;
     }
     to
 }
 
 // Item i, if it is an array.
-pub fn put_item(out: &mut [u8], at: usize, numbers: &[u64], shape: &[u8], i: usize) -> usize
+pub fn put_item(
+    rt: &impl Print,
+    out: &mut [u8],
+    at: usize,
+    numbers: &[u64],
+    shape: &[u8],
+    i: usize,
+) -> usize
     requires { Room at out.old }
     ensures { Room result out.new }
 {
@@ -147,52 +161,52 @@ pub fn put_item(out: &mut [u8], at: usize, numbers: &[u64], shape: &[u8], i: usi
         }
     }
     let elements = parts::array(numbers, shape, i);
-    put_array(out, at, elements)
+    put_array(rt, out, at, elements)
 }
 
 // The last array of an answer.
-pub fn put_last(out: &mut [u8], at: usize, numbers: &[u64]) -> usize
+pub fn put_last(rt: &impl Print, out: &mut [u8], at: usize, numbers: &[u64]) -> usize
     requires { Room at out.old }
     ensures { Room result out.new }
 {
-    let to = put_array(out, at, numbers);
-    put_byte(out, to, b'\n')
+    let to = put_array(rt, out, at, numbers);
+    put_byte(rt, out, to, b'\n')
 }
 
-pub fn put_last_bytes(out: &mut [u8], at: usize, bytes: &[u8]) -> usize
+pub fn put_last_bytes(rt: &impl Print, out: &mut [u8], at: usize, bytes: &[u8]) -> usize
     requires { Room at out.old }
     ensures { Room result out.new }
 {
     let mut space = [0u64; 65536];
     let numbers = lend::widen(bytes, &mut space);
-    put_last(out, at, numbers)
+    put_last(rt, out, at, numbers)
 }
 
-pub fn put_text(out: &mut [u8], at: usize, text: &[u8]) -> usize
+pub fn put_text(rt: &impl Print, out: &mut [u8], at: usize, text: &[u8]) -> usize
     requires { Room at out.old }
     ensures { Room result out.new }
 {
     let mut to = at;
     let mut i: usize = 0;
     while i < text.len() {
-        to = put_byte(out, to, text[i]);
+        to = put_byte(rt, out, to, text[i]);
         i += 1;
     }
     to
 }
 
-pub fn put_fault(out: &mut [u8], at: usize, fault: u64) -> usize
+pub fn put_fault(rt: &impl Print, out: &mut [u8], at: usize, fault: u64) -> usize
     requires { Room at out.old }
     ensures { Room result out.new }
 {
     if fault == faults::BAD_NUMBERS {
-        return put_text(out, at, b"bad numbers\n");
+        return put_text(rt, out, at, b"bad numbers\n");
     }
     if fault == faults::BAD_END {
-        return put_text(out, at, b"bad end\n");
+        return put_text(rt, out, at, b"bad end\n");
     }
     if fault == faults::BAD_LETTERS {
-        return put_text(out, at, b"bad letters\n");
+        return put_text(rt, out, at, b"bad letters\n");
     }
-    put_text(out, at, b"bad room\n")
+    put_text(rt, out, at, b"bad room\n")
 }

@@ -1,11 +1,12 @@
 // Standard input, byte by byte through a buffer.
 ghost use Rattle.std.specs.Prelude.{◌≡◌};
+ghost use Rattle.std.specs.Counts.{IsPrefixLen};
 ghost use Rattle.cases.specs.Stream.{Standing, Advanced, Skipped, line_ends};
 
-use libc::STDIN_FILENO;
+use std::io::Read;
 
 // The unread part of the buffer, and the byte read last: END past the end of the input.
-#[derive(Clone, Copy)]
+#[derive(Drop)]
 pub struct Source {
     pub at: usize,
     pub end: usize,
@@ -22,11 +23,29 @@ fn wide(b: u8) -> u64
     b as u64
 }
 
+// Standard input from where it stands, until buf is full, the input ends or a read fails; how many bytes stand at its front.
+pub fn read_full(rt: &impl Input, buf: &mut [u8]) -> usize
+    ensures { IsPrefixLen result buf.new }
+{
+    let mut reader = rt.reader();
+    let mut at: usize = 0;
+    while at < buf.len() {
+        let Ok(n) = reader.read(&mut buf[at..]) else {
+            return at;
+        };
+        if n == 0 {
+            return at;
+        }
+        at += n;
+    }
+    at
+}
+
 // The buffer filled again, and its first byte.
-fn refill(buf: &mut [u8]) -> Source
+fn refill(rt: &impl Input, buf: &mut [u8]) -> Source
     ensures { Standing result buf.new }
 {
-    let got = io::read_full(STDIN_FILENO, buf);
+    let got = read_full(rt, buf);
     if got == 0 {
         return Source {
             at: 0,
@@ -49,16 +68,16 @@ fn refill(buf: &mut [u8]) -> Source
 }
 
 // One byte more.
-pub fn advance(buf: &mut [u8], s: Source) -> Source
+pub fn advance(rt: &impl Input, buf: &mut [u8], s: Source) -> Source
     ensures { Advanced buf.old s buf.new result }
 {
     let at = s.at;
     let end = s.end;
     if end <= at {
-        return refill(buf);
+        return refill(rt, buf);
     }
     if buf.len() <= at {
-        return refill(buf);
+        return refill(rt, buf);
     }
     Source {
         at: at + 1,
@@ -74,7 +93,7 @@ pub fn line_ends(last: u64) -> bool
 }
 
 // To the end of the line.
-pub fn skip_line(buf: &mut [u8], s: Source) -> Source
+pub fn skip_line(rt: &impl Input, buf: &mut [u8], s: Source) -> Source
     ensures { Skipped s result buf.new }
 {
     let mut source = s;
@@ -83,7 +102,7 @@ pub fn skip_line(buf: &mut [u8], s: Source) -> Source
         if line_ends(source.last) {
             return source;
         }
-        source = advance(buf, source);
+        source = advance(rt, buf, source);
         turns += 1;
     }
     source

@@ -10,6 +10,8 @@ use desk::work::{Done, PROTECTED, status};
 use request::ids::Listed;
 use request::{ask, ids};
 use scanning::Verdict;
+use std::io;
+use std::rt::Files;
 
 const REFUSED: u64 = 1;
 
@@ -21,34 +23,32 @@ const UNREAD: u64 = 1;
 // How many events there is room for.
 const EVENTS: usize = 8192;
 
-fn print_verdict(out: i32, v: Verdict) -> bool {
-    let number = io::write_all(out, b"verdict ") && io::print_decimal(out, v.number);
-    let first = io::write_all(out, b" ") && io::print_decimal(out, v.first);
-    let second = io::write_all(out, b" ") && io::print_decimal(out, v.second);
-    let end = io::write_all(out, b"\n");
-    number && first && second && end
+fn print_verdict(out: &impl Print, v: Verdict) -> io::Result<()> {
+    out.write_all(b"verdict ")?;
+    out.print(v.number)?;
+    out.write_all(b" ")?;
+    out.print(v.first)?;
+    out.write_all(b" ")?;
+    out.print(v.second)?;
+    out.write_all(b"\n")
 }
 
 // What goes to standard output: the graph, the table, the verdict, each where it is asked for there.
-fn print(words: &[u8], out: i32, page: &[u8], table: &[u8], v: Verdict) -> bool {
+fn print(words: &[u8], out: &impl Print, page: &[u8], table: &[u8], v: Verdict) -> io::Result<()> {
     if ask::is_standard(ask::first(words, ask::OUT)) {
-        if !io::write_all(out, page) {
-            return false;
-        }
+        out.write_all(page)?;
     }
     if same_word(ask::first(words, ask::TABLE), b"-") {
-        if !io::write_all(out, table) {
-            return false;
-        }
+        out.write_all(table)?;
     }
     if ask::count(words, ask::CHECK) == 0 {
-        return true;
+        return Ok(());
     }
     print_verdict(out, v)
 }
 
 // The result is out; how it came about.
-fn conclude(words: &[u8], err: i32, d: Done) -> u64
+fn conclude(words: &[u8], err: &impl Print, d: Done) -> u64
     ensures { result ≤ 3 }
 {
     if d.stopped != 0 {
@@ -57,12 +57,20 @@ fn conclude(words: &[u8], err: i32, d: Done) -> u64
     status(d)
 }
 
-fn write(words: &[u8], out: i32, err: i32, page: &[u8], table: &[u8], d: Done) -> u64
+fn write(
+    rt: &impl Files,
+    words: &[u8],
+    out: &impl Print,
+    err: &impl Print,
+    page: &[u8],
+    table: &[u8],
+    d: Done,
+) -> u64
     ensures { result ≤ 3 }
 {
     let out_name = ask::first(words, ask::OUT);
     let table_name = ask::first(words, ask::TABLE);
-    let saved = files::save(out_name, page, table_name, table);
+    let saved = files::save(rt, out_name, page, table_name, table);
     if saved.error != 0 {
         if saved.out {
             say::unwritable(err, out_name, saved.error);
@@ -71,14 +79,14 @@ fn write(words: &[u8], out: i32, err: i32, page: &[u8], table: &[u8], d: Done) -
         }
         return UNUSABLE;
     }
-    if !print(words, out, page, table, d.verdict) {
-        say::unwritable(err, b"standard output", files::reason());
+    if let Err(e) = print(words, out, page, table, d.verdict) {
+        say::unwritable(err, b"standard output", files::reason(e));
         return UNUSABLE;
     }
     conclude(words, err, d)
 }
 
-fn refuse(words: &[u8], err: i32, source: u64, number: u64) -> u64
+fn refuse(words: &[u8], err: &impl Print, source: u64, number: u64) -> u64
     ensures { result ≤ 3 }
 {
     if source == PROTECTED {
@@ -99,7 +107,15 @@ fn least(a: usize, b: usize) -> usize
 }
 
 // The old graph's rooms are 01's limits of the program; the others are larger, so that a graph at them can be collapsed.
-fn work(words: &[u8], text: &[u8], protected: &[u64], out: i32, err: i32, most: usize) -> u64
+fn work(
+    rt: &impl Files,
+    words: &[u8],
+    text: &[u8],
+    protected: &[u64],
+    out: &impl Print,
+    err: &impl Print,
+    most: usize,
+) -> u64
     ensures { result ≤ 3 }
 {
     let check = ask::count(words, ask::CHECK) != 0;
@@ -136,15 +152,15 @@ fn work(words: &[u8], text: &[u8], protected: &[u64], out: i32, err: i32, most: 
     }
     let p = d.page;
     let t = d.table;
-    write(words, out, err, &page[..p], &table[..t], d)
+    write(rt, words, out, err, &page[..p], &table[..t], d)
 }
 
 // The protected list from its file; where that cannot be read, a line says so and the number is 1, which no list is refused for.
-fn read_ids(name: &[u8], err: i32, room: &mut [u64]) -> Listed
+fn read_ids(rt: &(impl Files + Input), name: &[u8], err: &impl Print, room: &mut [u64]) -> Listed
     ensures { result.count ≤ length room.new }
 {
     let mut bytes = [0u8; 65537];
-    let got = files::read(name, &mut bytes);
+    let got = files::read(rt, name, &mut bytes);
     if got.error != 0 {
         say::unreadable(err, name, got.error);
         return Listed {
@@ -162,15 +178,22 @@ fn read_ids(name: &[u8], err: i32, room: &mut [u64]) -> Listed
     ids::list(&bytes[..n], room)
 }
 
-fn with_ids(words: &[u8], text: &[u8], out: i32, err: i32, most: usize) -> u64
+fn with_ids(
+    rt: &(impl Files + Input),
+    words: &[u8],
+    text: &[u8],
+    out: &impl Print,
+    err: &impl Print,
+    most: usize,
+) -> u64
     ensures { result ≤ 3 }
 {
     let mut room = [0u64; 4096];
     let name = ask::first(words, ask::IDS);
     if name.len() == 0 {
-        return work(words, text, &room[..0], out, err, most);
+        return work(rt, words, text, &room[..0], out, err, most);
     }
-    let listed = read_ids(name, err, &mut room);
+    let listed = read_ids(rt, name, err, &mut room);
     if listed.number == UNREAD {
         return UNUSABLE;
     }
@@ -178,26 +201,38 @@ fn with_ids(words: &[u8], text: &[u8], out: i32, err: i32, most: usize) -> u64
         return refuse(words, err, PROTECTED, listed.number);
     }
     let n = listed.count;
-    work(words, text, &room[..n], out, err, most)
+    work(rt, words, text, &room[..n], out, err, most)
 }
 
 // A byte more than the program takes is read, so that a longer text is seen.
-fn with_text(words: &[u8], out: i32, err: i32, most: usize) -> u64
+fn with_text(
+    rt: &(impl Files + Input),
+    words: &[u8],
+    out: &impl Print,
+    err: &impl Print,
+    most: usize,
+) -> u64
     ensures { result ≤ 3 }
 {
     let mut bytes = [0u8; 65537];
     let name = ask::first(words, ask::GRAPH);
-    let got = files::read(name, &mut bytes);
+    let got = files::read(rt, name, &mut bytes);
     if got.error != 0 {
         say::unreadable(err, name, got.error);
         return UNUSABLE;
     }
     let n = got.len;
-    with_ids(words, &bytes[..n], out, err, most)
+    with_ids(rt, words, &bytes[..n], out, err, most)
 }
 
 // `most` is how many events the driver has room for. Words with a fault end in 2, whatever the files hold.
-pub fn run(words: &[u8], out: i32, err: i32, most: usize) -> u64
+pub fn run(
+    rt: &(impl Files + Input),
+    words: &[u8],
+    out: &impl Print,
+    err: &impl Print,
+    most: usize,
+) -> u64
     ensures { (result ≤ 3) × ((eqb (fault_of (words_of words.now)) 0 ≡ false) → result ≡ 2) }
 {
     let fault = ask::fault(words);
@@ -205,11 +240,11 @@ pub fn run(words: &[u8], out: i32, err: i32, most: usize) -> u64
         say::faulty(err, words, fault);
         return UNUSABLE;
     }
-    with_text(words, out, err, most)
+    with_text(rt, words, out, err, most)
 }
 
 // The words are more than the program takes.
-pub fn too_long(err: i32) -> u64
+pub fn too_long(err: &impl Print) -> u64
     ensures { result ≡ 2 }
 {
     say::too_long(err);

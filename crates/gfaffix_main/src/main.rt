@@ -1,13 +1,14 @@
-// The program: its words to a run, and the status to descriptor 3, where bin/gfaffix waits for it.
+// The program: its words to a run, whose status it ends with.
 #![tactic(auto)]
 
-ghost use Rattle.std.specs.Prelude.{◌≡◌};
-ghost use Rattle.io.specs.Counts.{IsPrefixLen};
+ghost use Rattle.std.specs.Prelude.{◌≡◌, ◌≤◌};
+ghost use Rattle.std.specs.Counts.{IsPrefixLen};
 
-use libc::{STDERR_FILENO, STDOUT_FILENO};
+use std::env::{Env, FillError};
+use std::process::ExitCode;
 
 // The words, each ended by a 0, at the front of the room; whether they fit.
-#[derive(Clone, Copy)]
+#[derive(Drop)]
 struct Collected {
     whole: bool,
     len: usize,
@@ -22,41 +23,43 @@ fn nothing() -> Collected
     }
 }
 
-fn collect(words: &mut [u8]) -> Collected
+fn collect(rt: &impl Env, words: &mut [u8]) -> Collected
     ensures { IsPrefixLen result.len words.new }
 {
-    let count = os::arg_count();
     let mut at: usize = 0;
-    let mut i: usize = 1;
-    while i < count {
-        let n = os::arg(i, &mut words[at..]);
-        if os::errno() != 0 {
-            return nothing();
-        }
+    for i in 1..usize::MAX {
+        let n = match rt.arg(i, &mut words[at..]) {
+            Ok(n) => n,
+            Err(FillError::NotPresent) => {
+                return Collected {
+                    whole: true,
+                    len: at,
+                };
+            }
+            Err(FillError::TooLong) => return nothing(),
+        };
         if words.len() - at <= n {
             return nothing();
         }
         words[at + n] = 0;
         at += n + 1;
-        i += 1;
     }
-    Collected {
-        whole: true,
-        len: at,
-    }
+    nothing()
 }
 
-fn run() -> u64 {
+fn run(rt: &HostRuntime) -> u64
+    ensures { result ≤ 3 }
+{
     let mut words = [0u8; 32768];
-    let c = collect(&mut words);
+    let c = collect(rt, &mut words);
     if !c.whole {
-        return front::run::too_long(STDERR_FILENO);
+        return front::run::too_long(&rt.stderr());
     }
     let n = c.len;
-    front::run::run(&words[..n], STDOUT_FILENO, STDERR_FILENO, 8192)
+    front::run::run(rt, &words[..n], &rt.stdout(), &rt.stderr(), 8192)
 }
 
-fn main() {
-    let status = run();
-    io::print_decimal(3, status);
+fn main(rt: HostRuntime) -> ExitCode {
+    let status = run(&rt);
+    ExitCode::from(status as u8)
 }

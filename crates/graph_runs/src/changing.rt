@@ -13,6 +13,7 @@ pub const COLLAPSE_ALL: u64 = 1;
 
 // The graph after the call, whose letters nothing changes, and the list.
 fn put_arrays(
+    rt: &impl Print,
     out: &mut [u8],
     at: usize,
     nodes: &[u64],
@@ -25,23 +26,31 @@ fn put_arrays(
     requires { Room at out.old }
     ensures { Room result out.new }
 {
-    let a = output::put_array(out, at, nodes);
-    let b = output::put_item(out, a, given, shape, 1);
-    let d = output::put_array(out, b, links);
-    let e = output::put_array(out, d, rules);
-    let f = output::put_array(out, e, steps);
-    let g = output::put_item(out, f, given, shape, 10);
-    output::put_byte(out, g, b'\n')
+    let a = output::put_array(rt, out, at, nodes);
+    let b = output::put_item(rt, out, a, given, shape, 1);
+    let d = output::put_array(rt, out, b, links);
+    let e = output::put_array(rt, out, d, rules);
+    let f = output::put_array(rt, out, e, steps);
+    let g = output::put_item(rt, out, f, given, shape, 10);
+    output::put_byte(rt, out, g, b'\n')
 }
 
 // An answer's numbers.
-fn put_numbers(out: &mut [u8], at: usize, number: u64, res: u64, c: Counts, u: Used) -> usize
+fn put_numbers(
+    rt: &impl Print,
+    out: &mut [u8],
+    at: usize,
+    number: u64,
+    res: u64,
+    c: Counts,
+    u: Used,
+) -> usize
     requires { Room at out.old }
     ensures { Room result out.new }
 {
-    let a = output::put_two(out, at, number, res);
-    let b = output::put_counts(out, a, c);
-    output::put_used(out, b, u)
+    let a = output::put_two(rt, out, at, number, res);
+    let b = output::put_counts(rt, out, a, c);
+    output::put_used(rt, out, b, u)
 }
 
 fn collapsed(
@@ -67,6 +76,7 @@ fn collapsed(
 }
 
 fn collapse(
+    rt: &impl Print,
     given: &[u64],
     shape: &[u8],
     nodes: &mut [u64],
@@ -81,8 +91,8 @@ fn collapse(
     ensures { Room result out.new }
 {
     let r = collapsed(given, shape, nodes, letters, links, rules, steps);
-    let a = put_numbers(out, at, r.number, r.shared, r.counts, r.used);
-    put_arrays(out, a, nodes, links, rules, steps, given, shape)
+    let a = put_numbers(rt, out, at, r.number, r.shared, r.counts, r.used);
+    put_arrays(rt, out, a, nodes, links, rules, steps, given, shape)
 }
 
 fn driven(
@@ -107,6 +117,7 @@ fn driven(
 }
 
 fn collapse_all(
+    rt: &impl Print,
     given: &[u64],
     shape: &[u8],
     nodes: &mut [u64],
@@ -121,11 +132,12 @@ fn collapse_all(
     ensures { Room result out.new }
 {
     let r = driven(given, shape, nodes, letters, links, rules, steps);
-    let a = put_numbers(out, at, r.number, r.made, r.counts, r.used);
-    put_arrays(out, a, nodes, links, rules, steps, given, shape)
+    let a = put_numbers(rt, out, at, r.number, r.made, r.counts, r.used);
+    put_arrays(rt, out, a, nodes, links, rules, steps, given, shape)
 }
 
 pub fn run(
+    rt: &impl Print,
     operation: u64,
     given: &[u64],
     shape: &[u8],
@@ -138,7 +150,7 @@ pub fn run(
 {
     let fault = faults::fault(given, shape);
     if fault != faults::FINE {
-        return output::put_fault(out, at, fault);
+        return output::put_fault(rt, out, at, fault);
     }
     let mut first = [0u64; 16384];
     let mut second = [0u64; 16384];
@@ -150,7 +162,11 @@ pub fn run(
     let rules = lend::numbers(given, shape, 6, &mut third);
     let steps = lend::numbers(given, shape, 7, &mut fourth);
     if operation == COLLAPSE {
-        return collapse(given, shape, nodes, letters, links, rules, steps, out, at);
+        return collapse(
+            rt, given, shape, nodes, letters, links, rules, steps, out, at,
+        );
     }
-    collapse_all(given, shape, nodes, letters, links, rules, steps, out, at)
+    collapse_all(
+        rt, given, shape, nodes, letters, links, rules, steps, out, at,
+    )
 }

@@ -12,7 +12,14 @@ pub const SPELL_WALK: u64 = 2;
 
 pub const CHECK_TRANSFORM: u64 = 3;
 
-fn live_letters(given: &[u64], shape: &[u8], letters: &[u8], out: &mut [u8], at: usize) -> usize
+fn live_letters(
+    rt: &impl Print,
+    given: &[u64],
+    shape: &[u8],
+    letters: &[u8],
+    out: &mut [u8],
+    at: usize,
+) -> usize
     requires { Room at out.old }
     ensures { Room result out.new }
 {
@@ -22,12 +29,13 @@ fn live_letters(given: &[u64], shape: &[u8], letters: &[u8], out: &mut [u8], at:
         parts::array(given, shape, 2),
         parts::counts(given, shape, 3),
     );
-    let a = output::put_two(out, at, r.number, r.total);
-    let b = output::put_given(out, a, given, shape, 6);
-    output::put_byte(out, b, b'\n')
+    let a = output::put_two(rt, out, at, r.number, r.total);
+    let b = output::put_given(rt, out, a, given, shape, 6);
+    output::put_byte(rt, out, b, b'\n')
 }
 
 fn get_shared_prefix(
+    rt: &impl Print,
     given: &[u64],
     shape: &[u8],
     letters: &[u8],
@@ -46,12 +54,13 @@ fn get_shared_prefix(
         parts::array(given, shape, 6),
         room,
     );
-    let a = output::put_two(out, at, r.number, r.length as u64);
-    let b = output::put_given(out, a, given, shape, 7);
-    output::put_last_bytes(out, b, room)
+    let a = output::put_two(rt, out, at, r.number, r.length as u64);
+    let b = output::put_given(rt, out, a, given, shape, 7);
+    output::put_last_bytes(rt, out, b, room)
 }
 
 fn spell_walk(
+    rt: &impl Print,
     given: &[u64],
     shape: &[u8],
     letters: &[u8],
@@ -70,10 +79,10 @@ fn spell_walk(
         parts::array(given, shape, 6),
         room,
     );
-    let a = output::put_two(out, at, r.number, r.place as u64);
-    let b = output::put_next(out, a, r.length as u64);
-    let e = output::put_given(out, b, given, shape, 7);
-    output::put_last_bytes(out, e, room)
+    let a = output::put_two(rt, out, at, r.number, r.place as u64);
+    let b = output::put_next(rt, out, a, r.length as u64);
+    let e = output::put_given(rt, out, b, given, shape, 7);
+    output::put_last_bytes(rt, out, e, room)
 }
 
 // The other letters are the new graph's.
@@ -95,6 +104,7 @@ fn judged(given: &[u64], shape: &[u8], letters: &[u8], others: &[u8]) -> Verdict
 }
 
 fn check_transform(
+    rt: &impl Print,
     given: &[u64],
     shape: &[u8],
     letters: &[u8],
@@ -106,14 +116,15 @@ fn check_transform(
     ensures { Room result out.new }
 {
     let r = judged(given, shape, letters, others);
-    let a = output::put_two(out, at, r.number, r.first);
-    let b = output::put_next(out, a, r.second);
-    let e = output::put_given(out, b, given, shape, 17);
-    output::put_byte(out, e, b'\n')
+    let a = output::put_two(rt, out, at, r.number, r.first);
+    let b = output::put_next(rt, out, a, r.second);
+    let e = output::put_given(rt, out, b, given, shape, 17);
+    output::put_byte(rt, out, e, b'\n')
 }
 
 // Item 7, where there is one, is the room, or a second graph's letters.
 pub fn run(
+    rt: &impl Print,
     operation: u64,
     given: &[u64],
     shape: &[u8],
@@ -126,19 +137,19 @@ pub fn run(
 {
     let fault = faults::fault(given, shape);
     if fault != faults::FINE {
-        return output::put_fault(out, at, fault);
+        return output::put_fault(rt, out, at, fault);
     }
     let mut space = [0u8; 131072];
     let letters = lend::bytes(given, shape, 1, text);
     let room = lend::bytes(given, shape, 7, &mut space);
     if operation == LIVE_LETTERS {
-        return live_letters(given, shape, letters, out, at);
+        return live_letters(rt, given, shape, letters, out, at);
     }
     if operation == GET_SHARED_PREFIX {
-        return get_shared_prefix(given, shape, letters, room, out, at);
+        return get_shared_prefix(rt, given, shape, letters, room, out, at);
     }
     if operation == SPELL_WALK {
-        return spell_walk(given, shape, letters, room, out, at);
+        return spell_walk(rt, given, shape, letters, room, out, at);
     }
-    check_transform(given, shape, letters, room, out, at)
+    check_transform(rt, given, shape, letters, room, out, at)
 }

@@ -11,6 +11,7 @@ pub const TRANSFORM_WALK: u64 = 1;
 pub const EXPAND: u64 = 2;
 
 fn enumerate_branch(
+    rt: &impl Print,
     given: &[u64],
     shape: &[u8],
     letters: &[u8],
@@ -31,10 +32,10 @@ fn enumerate_branch(
         members,
         ends,
     );
-    let a = output::put_two(out, at, r.number, r.groups as u64);
-    let b = output::put_given(out, a, given, shape, 7);
-    let e = output::put_array(out, b, members);
-    output::put_last(out, e, ends)
+    let a = output::put_two(rt, out, at, r.number, r.groups as u64);
+    let b = output::put_given(rt, out, a, given, shape, 7);
+    let e = output::put_array(rt, out, b, members);
+    output::put_last(rt, out, e, ends)
 }
 
 fn rewritten(given: &[u64], shape: &[u8], letters: &[u8], room: &mut [u64]) -> Rewritten {
@@ -52,6 +53,7 @@ fn rewritten(given: &[u64], shape: &[u8], letters: &[u8], room: &mut [u64]) -> R
 }
 
 fn transform_walk(
+    rt: &impl Print,
     given: &[u64],
     shape: &[u8],
     letters: &[u8],
@@ -63,12 +65,13 @@ fn transform_walk(
     ensures { Room result out.new }
 {
     let r = rewritten(given, shape, letters, room);
-    let a = output::put_two(out, at, r.number, r.length as u64);
-    let b = output::put_given(out, a, given, shape, 11);
-    output::put_last(out, b, room)
+    let a = output::put_two(rt, out, at, r.number, r.length as u64);
+    let b = output::put_given(rt, out, a, given, shape, 11);
+    output::put_last(rt, out, b, room)
 }
 
 fn expand(
+    rt: &impl Print,
     given: &[u64],
     shape: &[u8],
     rules: &mut [u64],
@@ -86,14 +89,15 @@ fn expand(
         rules,
         steps,
     );
-    let a = output::put_number(out, at, r.number);
-    let b = output::put_used(out, a, r.used);
-    let e = output::put_given(out, b, given, shape, 4);
-    let f = output::put_array(out, e, rules);
-    output::put_last(out, f, steps)
+    let a = output::put_number(rt, out, at, r.number);
+    let b = output::put_used(rt, out, a, r.used);
+    let e = output::put_given(rt, out, b, given, shape, 4);
+    let f = output::put_array(rt, out, e, rules);
+    output::put_last(rt, out, f, steps)
 }
 
 pub fn run(
+    rt: &impl Print,
     operation: u64,
     given: &[u64],
     shape: &[u8],
@@ -106,21 +110,21 @@ pub fn run(
 {
     let fault = faults::fault(given, shape);
     if fault != faults::FINE {
-        return output::put_fault(out, at, fault);
+        return output::put_fault(rt, out, at, fault);
     }
     let mut first = [0u64; 131072];
     let mut second = [0u64; 65536];
     if operation == EXPAND {
         let rules = lend::numbers(given, shape, 4, &mut first);
         let steps = lend::numbers(given, shape, 5, &mut second);
-        return expand(given, shape, rules, steps, out, at);
+        return expand(rt, given, shape, rules, steps, out, at);
     }
     let letters = lend::bytes(given, shape, 1, text);
     if operation == TRANSFORM_WALK {
         let room = lend::numbers(given, shape, 11, &mut first);
-        return transform_walk(given, shape, letters, room, out, at);
+        return transform_walk(rt, given, shape, letters, room, out, at);
     }
     let members = lend::numbers(given, shape, 7, &mut first);
     let ends = lend::numbers(given, shape, 8, &mut second);
-    enumerate_branch(given, shape, letters, members, ends, out, at)
+    enumerate_branch(rt, given, shape, letters, members, ends, out, at)
 }

@@ -8,11 +8,11 @@ ghost use Rattle.cases.specs.Answers.{Room};
 use cases::stream::Source;
 use cases::{input, output, stream};
 use graph_runs::{changing, readers, rooms};
-use libc::STDOUT_FILENO;
+use std::io;
 use text_runs::{parsers, printers};
 
 // Where reading goes on, and how much of the answers waits in the buffer.
-#[derive(Clone, Copy)]
+#[derive(Drop)]
 struct Turn {
     source: Source,
     at: usize,
@@ -21,15 +21,23 @@ struct Turn {
 // The operation with this name, on the numbers of its line. Those that lend the same memory are called through one
 // function. It is called from more than one place, so that the compiler leaves it a call of its own: arrays of one kind
 // then do not add to those of another on the stack.
-fn answer(name: &[u8], numbers: &[u64], text: &mut [u8], out: &mut [u8], at: usize) -> usize
+fn answer(
+    rt: &impl Print,
+    name: &[u8],
+    numbers: &[u64],
+    text: &mut [u8],
+    out: &mut [u8],
+    at: usize,
+) -> usize
     requires { Room at out.old }
     ensures { Room result out.new }
 {
     if input::same_word(name, b"live_letters") {
-        return readers::run(readers::LIVE_LETTERS, numbers, b"atannn", text, out, at);
+        return readers::run(rt, readers::LIVE_LETTERS, numbers, b"atannn", text, out, at);
     }
     if input::same_word(name, b"get_shared_prefix") {
         return readers::run(
+            rt,
             readers::GET_SHARED_PREFIX,
             numbers,
             b"atannnab",
@@ -39,10 +47,11 @@ fn answer(name: &[u8], numbers: &[u64], text: &mut [u8], out: &mut [u8], at: usi
         );
     }
     if input::same_word(name, b"spell_walk") {
-        return readers::run(readers::SPELL_WALK, numbers, b"atannnab", text, out, at);
+        return readers::run(rt, readers::SPELL_WALK, numbers, b"atannnab", text, out, at);
     }
     if input::same_word(name, b"check_transform") {
         return readers::run(
+            rt,
             readers::CHECK_TRANSFORM,
             numbers,
             b"atannnatannnaanna",
@@ -51,16 +60,24 @@ fn answer(name: &[u8], numbers: &[u64], text: &mut [u8], out: &mut [u8], at: usi
             at,
         );
     }
-    with_room(name, numbers, text, out, at)
+    with_room(rt, name, numbers, text, out, at)
 }
 
 // The same for operations with room for numbers.
-fn with_room(name: &[u8], numbers: &[u64], text: &mut [u8], out: &mut [u8], at: usize) -> usize
+fn with_room(
+    rt: &impl Print,
+    name: &[u8],
+    numbers: &[u64],
+    text: &mut [u8],
+    out: &mut [u8],
+    at: usize,
+) -> usize
     requires { Room at out.old }
     ensures { Room result out.new }
 {
     if input::same_word(name, b"enumerate_branch") {
         return rooms::run(
+            rt,
             rooms::ENUMERATE_BRANCH,
             numbers,
             b"atannnnrr",
@@ -71,6 +88,7 @@ fn with_room(name: &[u8], numbers: &[u64], text: &mut [u8], out: &mut [u8], at: 
     }
     if input::same_word(name, b"transform_walk") {
         return rooms::run(
+            rt,
             rooms::TRANSFORM_WALK,
             numbers,
             b"atannnaannar",
@@ -80,21 +98,37 @@ fn with_room(name: &[u8], numbers: &[u64], text: &mut [u8], out: &mut [u8], at: 
         );
     }
     if input::same_word(name, b"expand") {
-        return rooms::run(rooms::EXPAND, numbers, b"aannwr", text, out, at);
+        return rooms::run(rt, rooms::EXPAND, numbers, b"aannwr", text, out, at);
     }
-    that_changes(name, numbers, text, out, at)
+    that_changes(rt, name, numbers, text, out, at)
 }
 
 // The same for operations that change a graph and its event list.
-fn that_changes(name: &[u8], numbers: &[u64], text: &mut [u8], out: &mut [u8], at: usize) -> usize
+fn that_changes(
+    rt: &impl Print,
+    name: &[u8],
+    numbers: &[u64],
+    text: &mut [u8],
+    out: &mut [u8],
+    at: usize,
+) -> usize
     requires { Room at out.old }
     ensures { Room result out.new }
 {
     if input::same_word(name, b"collapse") {
-        return changing::run(changing::COLLAPSE, numbers, b"stsnnnssnnan", text, out, at);
+        return changing::run(
+            rt,
+            changing::COLLAPSE,
+            numbers,
+            b"stsnnnssnnan",
+            text,
+            out,
+            at,
+        );
     }
     if input::same_word(name, b"collapse_all") {
         return changing::run(
+            rt,
             changing::COLLAPSE_ALL,
             numbers,
             b"stsnnnssnna",
@@ -103,25 +137,33 @@ fn that_changes(name: &[u8], numbers: &[u64], text: &mut [u8], out: &mut [u8], a
             at,
         );
     }
-    on_text(name, numbers, text, out, at)
+    on_text(rt, name, numbers, text, out, at)
 }
 
 // The same for operations on text.
-fn on_text(name: &[u8], numbers: &[u64], text: &mut [u8], out: &mut [u8], at: usize) -> usize
+fn on_text(
+    rt: &impl Print,
+    name: &[u8],
+    numbers: &[u64],
+    text: &mut [u8],
+    out: &mut [u8],
+    at: usize,
+) -> usize
     requires { Room at out.old }
     ensures { Room result out.new }
 {
     if input::same_word(name, b"read_gfa") {
-        return parsers::run(parsers::READ_GFA, numbers, b"trtr", text, out, at);
+        return parsers::run(rt, parsers::READ_GFA, numbers, b"trtr", text, out, at);
     }
     if input::same_word(name, b"parse_header") {
-        return parsers::run(parsers::PARSE_HEADER, numbers, b"tt", text, out, at);
+        return parsers::run(rt, parsers::PARSE_HEADER, numbers, b"tt", text, out, at);
     }
     if input::same_word(name, b"print_active_subgraph") {
-        return printers::run(printers::SUBGRAPH, numbers, b"atannnb", text, out, at);
+        return printers::run(rt, printers::SUBGRAPH, numbers, b"atannnb", text, out, at);
     }
     if input::same_word(name, b"print_transformations") {
         return printers::run(
+            rt,
             printers::TRANSFORMATIONS,
             numbers,
             b"atannnaannb",
@@ -131,13 +173,14 @@ fn on_text(name: &[u8], numbers: &[u64], text: &mut [u8], out: &mut [u8], at: us
         );
     }
     if input::same_word(name, b"parse_and_transform_paths") {
-        return printers::run(printers::PATHS, numbers, b"tatannnaannb", text, out, at);
+        return printers::run(rt, printers::PATHS, numbers, b"tatannnaannb", text, out, at);
     }
-    output::put_text(out, at, b"bad operation\n")
+    output::put_text(rt, out, at, b"bad operation\n")
 }
 
 // One line: a case, or nothing where it is empty or begins with `#`.
 fn line(
+    rt: &(impl Input + Print),
     buf: &mut [u8],
     s: Source,
     numbers: &mut [u64],
@@ -152,25 +195,31 @@ fn line(
         return Turn { source: s, at };
     }
     if s.last == input::HASH {
-        let source = stream::skip_line(buf, s);
+        let source = stream::skip_line(rt, buf, s);
         return Turn { source, at };
     }
     let mut name = [0u8; 32];
-    let w = input::word(buf, s, &mut name);
+    let w = input::word(rt, buf, s, &mut name);
     let k = w.count;
-    let r = input::numbers(buf, w.source, numbers);
+    let r = input::numbers(rt, buf, w.source, numbers);
     let n = r.count;
-    let source = stream::skip_line(buf, r.source);
+    let source = stream::skip_line(rt, buf, r.source);
     if !r.ok {
-        let to = output::put_text(out, at, b"bad numbers\n");
+        let to = output::put_text(rt, out, at, b"bad numbers\n");
         return Turn { source, at: to };
     }
-    let to = answer(&name[..k], &numbers[..n], text, out, at);
+    let to = answer(rt, &name[..k], &numbers[..n], text, out, at);
     Turn { source, at: to }
 }
 
 // Every line of the input; how much of the answers is left in the buffer. (2^40 lines is past any input.)
-fn lines(buf: &mut [u8], numbers: &mut [u64], text: &mut [u8], out: &mut [u8]) -> usize
+fn lines(
+    rt: &(impl Input + Print),
+    buf: &mut [u8],
+    numbers: &mut [u64],
+    text: &mut [u8],
+    out: &mut [u8],
+) -> usize
     requires { 32 ≤ length out.old }
     ensures { result ≤ length out.new }
 {
@@ -182,11 +231,11 @@ fn lines(buf: &mut [u8], numbers: &mut [u64], text: &mut [u8], out: &mut [u8]) -
     let mut at: usize = 0;
     let mut turns: u64 = 0;
     while turns < 1099511627776 {
-        source = stream::advance(buf, source);
+        source = stream::advance(rt, buf, source);
         if source.last == stream::END {
             return at;
         }
-        let t = line(buf, source, numbers, text, out, at);
+        let t = line(rt, buf, source, numbers, text, out, at);
         source = t.source;
         at = t.at;
         turns += 1;
@@ -194,11 +243,11 @@ fn lines(buf: &mut [u8], numbers: &mut [u64], text: &mut [u8], out: &mut [u8]) -
     at
 }
 
-fn main() {
+fn main(rt: HostRuntime) -> io::Result<()> {
     let mut buf = [0u8; 65536];
     let mut numbers = [0u64; 393216];
     let mut text = [0u8; 131072];
     let mut out = [0u8; 65536];
-    let n = lines(&mut buf, &mut numbers, &mut text, &mut out);
-    io::write_all(STDOUT_FILENO, &out[..n]);
+    let n = lines(&rt, &mut buf, &mut numbers, &mut text, &mut out);
+    rt.write_all(&out[..n])
 }

@@ -10,6 +10,7 @@ pub const PARSE_HEADER: u64 = 1;
 
 // A reading's numbers and its store after the call; the text is as it was given.
 fn put_read(
+    rt: &impl Print,
     out: &mut [u8],
     at: usize,
     r: Read,
@@ -22,15 +23,16 @@ fn put_read(
     requires { Room at out.old }
     ensures { Room result out.new }
 {
-    let a = output::put_number(out, at, r.number);
-    let b = output::put_counts(out, a, r.counts);
-    let d = output::put_item(out, b, given, shape, 0);
-    let e = output::put_array(out, d, nodes);
-    let f = output::put_array(out, e, letters);
-    output::put_last(out, f, links)
+    let a = output::put_number(rt, out, at, r.number);
+    let b = output::put_counts(rt, out, a, r.counts);
+    let d = output::put_item(rt, out, b, given, shape, 0);
+    let e = output::put_array(rt, out, d, nodes);
+    let f = output::put_array(rt, out, e, letters);
+    output::put_last(rt, out, f, links)
 }
 
 fn read_gfa(
+    rt: &impl Print,
     given: &[u64],
     shape: &[u8],
     text: &[u8],
@@ -46,10 +48,17 @@ fn read_gfa(
     let mut wide = [0u64; 131072];
     let r = gfaffix::read_gfa::read_gfa(text, nodes, letters, links);
     let read = lend::widen(letters, &mut wide);
-    put_read(out, at, r, nodes, read, links, given, shape)
+    put_read(rt, out, at, r, nodes, read, links, given, shape)
 }
 
-fn with_store(given: &[u64], shape: &[u8], text: &[u8], out: &mut [u8], at: usize) -> usize
+fn with_store(
+    rt: &impl Print,
+    given: &[u64],
+    shape: &[u8],
+    text: &[u8],
+    out: &mut [u8],
+    at: usize,
+) -> usize
     requires { Room at out.old }
     ensures { Room result out.new }
 {
@@ -59,11 +68,18 @@ fn with_store(given: &[u64], shape: &[u8], text: &[u8], out: &mut [u8], at: usiz
     let nodes = lend::numbers(given, shape, 1, &mut first);
     let letters = lend::bytes(given, shape, 2, &mut second);
     let links = lend::numbers(given, shape, 3, &mut third);
-    read_gfa(given, shape, text, nodes, letters, links, out, at)
+    read_gfa(rt, given, shape, text, nodes, letters, links, out, at)
 }
 
 // One array and nothing else.
-fn parse_header(given: &[u64], shape: &[u8], text: &[u8], out: &mut [u8], at: usize) -> usize
+fn parse_header(
+    rt: &impl Print,
+    given: &[u64],
+    shape: &[u8],
+    text: &[u8],
+    out: &mut [u8],
+    at: usize,
+) -> usize
     requires { Room at out.old }
     ensures { Room result out.new }
 {
@@ -74,12 +90,13 @@ fn parse_header(given: &[u64], shape: &[u8], text: &[u8], out: &mut [u8], at: us
         gfaffix::parse_header::parse_header(text, fallback),
         &mut wide,
     );
-    let a = output::put_number(out, at, header.len() as u64);
-    let b = output::put_elements(out, a, header);
-    output::put_byte(out, b, b'\n')
+    let a = output::put_number(rt, out, at, header.len() as u64);
+    let b = output::put_elements(rt, out, a, header);
+    output::put_byte(rt, out, b, b'\n')
 }
 
 pub fn run(
+    rt: &impl Print,
     operation: u64,
     given: &[u64],
     shape: &[u8],
@@ -92,11 +109,11 @@ pub fn run(
 {
     let fault = faults::fault(given, shape);
     if fault != faults::FINE {
-        return output::put_fault(out, at, fault);
+        return output::put_fault(rt, out, at, fault);
     }
     let lines = lend::bytes(given, shape, 0, text);
     if operation == READ_GFA {
-        return with_store(given, shape, lines, out, at);
+        return with_store(rt, given, shape, lines, out, at);
     }
-    parse_header(given, shape, lines, out, at)
+    parse_header(rt, given, shape, lines, out, at)
 }

@@ -12,6 +12,7 @@ pub const PATHS: u64 = 2;
 
 // The room is the last item, k; the arrays before it are as they were given.
 fn put_written(
+    rt: &impl Print,
     out: &mut [u8],
     at: usize,
     r: Written,
@@ -23,9 +24,9 @@ fn put_written(
     requires { Room at out.old }
     ensures { Room result out.new }
 {
-    let a = output::put_two(out, at, r.number, r.len as u64);
-    let b = output::put_given(out, a, given, shape, k);
-    output::put_last_bytes(out, b, room)
+    let a = output::put_two(rt, out, at, r.number, r.len as u64);
+    let b = output::put_given(rt, out, a, given, shape, k);
+    output::put_last_bytes(rt, out, b, room)
 }
 
 fn print_active_subgraph(given: &[u64], shape: &[u8], letters: &[u8], room: &mut [u8]) -> Written {
@@ -72,7 +73,14 @@ fn parse_and_transform_paths(
 }
 
 // The one that has text of its own before the graph.
-fn with_paths(given: &[u64], shape: &[u8], text: &[u8], out: &mut [u8], at: usize) -> usize
+fn with_paths(
+    rt: &impl Print,
+    given: &[u64],
+    shape: &[u8],
+    text: &[u8],
+    out: &mut [u8],
+    at: usize,
+) -> usize
     requires { Room at out.old }
     ensures { Room result out.new }
 {
@@ -81,10 +89,11 @@ fn with_paths(given: &[u64], shape: &[u8], text: &[u8], out: &mut [u8], at: usiz
     let letters = lend::bytes(given, shape, 2, &mut first);
     let room = lend::bytes(given, shape, 11, &mut second);
     let r = parse_and_transform_paths(given, shape, text, letters, room);
-    put_written(out, at, r, room, given, shape, 11)
+    put_written(rt, out, at, r, room, given, shape, 11)
 }
 
 pub fn run(
+    rt: &impl Print,
     operation: u64,
     given: &[u64],
     shape: &[u8],
@@ -97,20 +106,20 @@ pub fn run(
 {
     let fault = faults::fault(given, shape);
     if fault != faults::FINE {
-        return output::put_fault(out, at, fault);
+        return output::put_fault(rt, out, at, fault);
     }
     if operation == PATHS {
         let lines = lend::bytes(given, shape, 0, text);
-        return with_paths(given, shape, lines, out, at);
+        return with_paths(rt, given, shape, lines, out, at);
     }
     let mut space = [0u8; 65536];
     let letters = lend::bytes(given, shape, 1, text);
     if operation == SUBGRAPH {
         let room = lend::bytes(given, shape, 6, &mut space);
         let r = print_active_subgraph(given, shape, letters, room);
-        return put_written(out, at, r, room, given, shape, 6);
+        return put_written(rt, out, at, r, room, given, shape, 6);
     }
     let room = lend::bytes(given, shape, 10, &mut space);
     let r = print_transformations(given, shape, letters, room);
-    put_written(out, at, r, room, given, shape, 10)
+    put_written(rt, out, at, r, room, given, shape, 10)
 }

@@ -3,9 +3,11 @@
 #![tactic(auto)]
 
 ghost use Rattle.std.specs.Prelude.{◌≤◌, length};
-ghost use Rattle.io.specs.Counts.{IsPrefixLen};
+ghost use Rattle.std.specs.Counts.{IsPrefixLen};
 
-use libc::{STDIN_FILENO, STDOUT_FILENO};
+use cases::stream::read_full;
+use std::io;
+use std::rt::Files;
 use text::pieces::piece_end;
 
 const NEWLINE: u8 = 10;
@@ -55,45 +57,43 @@ fn most(from: usize) -> usize {
     2
 }
 
-fn run(line: &[u8], most: usize) {
+fn run(rt: &(impl Files + Input + Print), line: &[u8], most: usize) -> io::Result<()> {
     let mut words = [0u8; 4096];
-    io::write_all(STDOUT_FILENO, b"$ gfaffix ");
-    io::write_all(STDOUT_FILENO, line);
-    io::write_all(STDOUT_FILENO, b"\n");
+    rt.write_all(b"$ gfaffix ")?;
+    rt.write_all(line)?;
+    rt.write_all(b"\n")?;
     let n = cut(line, &mut words);
-    let status = front::run::run(&words[..n], STDOUT_FILENO, STDOUT_FILENO, most);
-    io::write_all(STDOUT_FILENO, b"status ");
-    io::print_decimal(STDOUT_FILENO, status);
-    io::write_all(STDOUT_FILENO, b"\n");
+    let status = front::run::run(rt, &words[..n], rt, rt, most);
+    rt.write_all(b"status ")?;
+    rt.println(status)
 }
 
-fn one(line: &[u8]) {
+fn one(rt: &(impl Files + Input + Print), line: &[u8]) -> io::Result<()> {
     if line.len() == 0 {
-        return;
+        return Ok(());
     }
     if line[0] == b'#' {
-        io::write_all(STDOUT_FILENO, line);
-        io::write_all(STDOUT_FILENO, b"\n");
-        return;
+        rt.write_all(line)?;
+        return rt.write_all(b"\n");
     }
     let from = start(line);
-    run(&line[from..], most(from));
+    run(rt, &line[from..], most(from))
 }
 
-fn all(text: &[u8]) {
+fn all(rt: &(impl Files + Input + Print), text: &[u8]) -> io::Result<()> {
     let mut at: usize = 0;
     loop {
         let end = piece_end(text, at, NEWLINE);
-        one(&text[at..end]);
+        one(rt, &text[at..end])?;
         if end == text.len() {
-            return;
+            return Ok(());
         }
         at = end + 1;
     }
 }
 
-fn main() {
+fn main(rt: HostRuntime) -> io::Result<()> {
     let mut room = [0u8; 32768];
-    let n = io::read_full(STDIN_FILENO, &mut room);
-    all(&room[..n]);
+    let n = read_full(&rt, &mut room);
+    all(&rt, &room[..n])
 }
