@@ -152,7 +152,7 @@ module _ (l : Lent) (letters : List ℕ) (c : Counts) (u : Used) (p : ℕ) (ms :
         few_links = fits_few 3 131072 _ _ k;
         link_room = rw (links-length l after passed.room_left) (fits-room 3 131072 _ _ k);
       }))
-      (ap (λ (x : State). good_graph x.graph) back_after ∙ merged.good-after p g ms collapses)
+      (ap (λ (x : State). good_graph x.graph) back_after ∙ merged.good_after p g ms collapses)
 
   new_good : (e : Event) → Memᴰ e (events_for p g ms) → GoodEvent e
   new_good e i =

@@ -14,7 +14,7 @@ use Rattle.handle.specs.declared.Handle.{Handle}
 use Rattle.store.specs.declared.Counts.{Counts}
 use Rattle.store.specs.Graph.{Node, Link, Graph, node_layout, nodes_of, links_of, graph_of}
 use Rattle.store.specs.Views.{named, node_named}
-use Rattle.formed.specs.WellFormed.{good_node, good_graph, well_formed, ids_once, roomFor}
+use Rattle.formed.specs.WellFormed.{good_node, good_graph, well_formed, ids_once, room_for}
 use Rattle.formed.proofs.Says.{Room, node_says, formed_room, formed_good}
 use Rattle.events.specs.declared.Used.{Used}
 use Rattle.events.specs.Events.{Rules, Event, list_of, append_all}
@@ -88,7 +88,7 @@ module _ (l : Lent) (letters : List ℕ) (c : Counts) (u : Used) (p : ℕ) (ms :
   lists = seven (lists_fit (room_of l) after) (first-pass (group_number p s ms) _ z).1
 
   good : good_graph g ≡ true
-  good = and_true_r (roomFor l.nodes letters l.links c) (good_graph g) wf
+  good = and_true_r (room_for l.nodes letters l.links c) (good_graph g) wf
 
   holds : Room l.nodes letters l.links c
   holds = formed_room l.nodes letters l.links c wf

@@ -63,7 +63,7 @@ module _ (g : Lent) (walk : List ℕ) (ok : graph_number g.nodes g.letters g.lin
   letters = spell_walk (graph_in g) (handles_of walk)
 
   spelled_is : (room : List ℕ) → spelled g walk room ≡ s.given letters room
-  unfolding s.spellOutcome
+  unfolding s.spell_outcome
   spelled_is room = rw (ok, w.over_nodes, w.over_links)
 
   spelled-number : (room : List ℕ) → (spelled g walk room).answer.number ≡ room_or7 room (length letters)
@@ -88,7 +88,7 @@ module _ (old : Lent) (rules steps : List ℕ) (u : Used) (walk : List ℕ) (ok 
   outcome_if b room = cond b (t.refused 7 room) (t.outcome (t.answer 0 (length made)) (over (numbers made) room))
 
   rewritten_is : (room : List ℕ) → rewritten old rules steps u walk room ≡ outcome_if (ltb (length room) (length made)) room
-  unfolding t.transformOutcome
+  unfolding t.transform_outcome
   rewritten_is room = rw (ok, w.over_nodes)
 
   rewritten-number : (room : List ℕ) → (rewritten old rules steps u walk room).answer.number ≡ room_or7 room (length made)

@@ -10,11 +10,11 @@ use Rattle.walking.specs.TransformWalk as t
 use Rattle.promises.specs.Walks.{Walk, live_walk}
 
 abbrev pub spelled : Lent → List ℕ → List ℕ → s.Outcome
-spelled g walk room = s.spellOutcome g.nodes g.letters g.links g.counts walk room
+spelled g walk room = s.spell_outcome g.nodes g.letters g.links g.counts walk room
 
 abbrev pub rewritten : Lent → List ℕ → List ℕ → Used → List ℕ → List ℕ → t.Outcome
 rewritten old rules steps u walk room =
-    t.transformOutcome old.nodes old.letters old.links old.counts rules steps u walk room
+    t.transform_outcome old.nodes old.letters old.links old.counts rules steps u walk room
 
 -- what stands at the front of the room after it
 abbrev pub letters_in : s.Outcome → List ℕ

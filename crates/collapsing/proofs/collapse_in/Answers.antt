@@ -26,7 +26,7 @@ make-requires c =
     let f = planned-count c.in-Count.n c.plan.ensures c.in-Count.is in
     let k = planned-more a.p nodes ds (handles_of a.members.now) in
     let d : length ds ≡ a.c.links = length-map (links_of a.c.links a.links.now) (dim nodes) ∙ length-decode link_layout a.c.links a.links.now in
-    record { members_in_bounds = (c.requires.members_in_bounds.0, omega (arith, f.many), omega (arith, f.room), omega (arith, f.room, c.plan.auto.1.1.1.1.1.0)); storable = c.requires.storable; room_for = c.requires.room_for }
+    record { members_in_bounds = (c.requires.members_in_bounds.0, omega (arith, f.many), omega (arith, f.room), omega (arith, f.room, c.plan.auto.room)); storable = c.requires.storable; room_for = c.requires.room_for }
 
 pub returns : goal.returns
 returns c =

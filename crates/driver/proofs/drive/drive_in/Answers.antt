@@ -20,19 +20,19 @@ turn-t-requires c =
     record { c_value = (k.graph, k.ids); u_value = (k.events, k.keys); nodes_in_bounds = omega (arith, few, c.loop-counts.invariant.0, c.requires.in_bounds) }
 
 pub shape_of-nodes-then-t-eq0 : goal.shape_of-nodes-then-t-eq0
-shape_of-nodes-then-t-eq0 c = c.turn-t.auto.0 ∙ ap (λ (x : Room). x.nodes) c.loop-counts.invariant.1.room
+shape_of-nodes-then-t-eq0 c = c.turn-t.auto.nodes ∙ ap (λ (x : Room). x.nodes) c.loop-counts.invariant.1.room
 
 pub shape_of-links-then-t-eq0 : goal.shape_of-links-then-t-eq0
-shape_of-links-then-t-eq0 c = c.turn-t.auto.1.1.0 ∙ ap (λ (x : Room). x.links) c.loop-counts.invariant.1.room
+shape_of-links-then-t-eq0 c = c.turn-t.auto.links ∙ ap (λ (x : Room). x.links) c.loop-counts.invariant.1.room
 
 pub shape_of-rules-then-t-eq0 : goal.shape_of-rules-then-t-eq0
-shape_of-rules-then-t-eq0 c = c.turn-t.auto.1.1.1.1.0 ∙ ap (λ (x : Room). x.rules) c.loop-counts.invariant.1.room
+shape_of-rules-then-t-eq0 c = c.turn-t.auto.rules ∙ ap (λ (x : Room). x.rules) c.loop-counts.invariant.1.room
 
 pub shape_of-steps-then-t-eq0 : goal.shape_of-steps-then-t-eq0
-shape_of-steps-then-t-eq0 c = c.turn-t.auto.1.1.1.1.1.0 ∙ ap (λ (x : Room). x.steps) c.loop-counts.invariant.1.room
+shape_of-steps-then-t-eq0 c = c.turn-t.auto.steps ∙ ap (λ (x : Room). x.steps) c.loop-counts.invariant.1.room
 
 pub shape_of-members-then-t-eq0 : goal.shape_of-members-then-t-eq0
-shape_of-members-then-t-eq0 c = c.turn-t.auto.1.1.1.1.1.1.1.1.0 ∙ c.loop-counts.invariant.0
+shape_of-members-then-t-eq0 c = c.turn-t.auto.members ∙ c.loop-counts.invariant.0
 
 pub returns-then-t-eq0 : goal.returns-then-t-eq0
 returns-then-t-eq0 c =
@@ -59,4 +59,4 @@ loop-counts-preserved c =
       let a = c.args in
       going_again ((lent c.args.nodes.now c.args.links.now c.args.rules.now c.args.steps.now)) a.text.now a.c a.u a.protected.now ((lent c.loop-counts.nodes c.loop-counts.links c.loop-counts.rules c.loop-counts.steps)) c.loop-counts.counts c.loop-counts.used c.loop-counts.made c.loop-counts.invariant.1 c.turn-t.result _ c.turn-t.ensures c.if-t-eq0.false
     in
-    (c.turn-t.auto.1.1.1.1.1.1.1.1.0 ∙ c.loop-counts.invariant.0, again)
+    (c.turn-t.auto.members ∙ c.loop-counts.invariant.0, again)
