@@ -73,6 +73,7 @@ class Block:
             self.names = re.findall(r"(?m)^\s+(?:(?:pub|abbrev|unfoldable) )*(%s) :\s" % W, self.body)
         else:
             self.names = re.findall(r"(?m)^(?:(?:pub|abbrev|unfoldable|data|record|ruleset) )+(%s)" % W, self.body)
+            self.kind = "record" if re.search(r"(?m)^(?:pub )?(?:record|data) ", self.body) else self.kind
 
     def clause(self):
         """Returns the arguments and the body of the one clause."""
@@ -132,9 +133,10 @@ class Names:
         self.at = {}
         for k, p in enumerate(self.places):
             self.at.setdefault(norm(p[0]), k)
-        self.needs = {}
+        self.needs, self.new_needs = {}, {}
         for (old, new), (place, _) in zip(of["needs"], of["asked_at"]):
             self.needs.setdefault(self.key(old), (new, self.at.get(norm(place))))
+            self.new_needs.setdefault(norm(new), (new, self.at.get(norm(place))))
         self.loops = {norm(old): (new, live, changed) for ((old, new), live), changed in zip(of["loops"], of["changed"])}
 
     @staticmethod
@@ -143,9 +145,7 @@ class Names:
 
     def need(self, old):
         k = self.key(old)
-        if k in self.needs:
-            return self.needs[k]
-        return None
+        return self.needs.get(k) or self.new_needs.get(norm(old))
 
     def prev(self, k):
         p = self.places[k][1]
@@ -233,12 +233,19 @@ class Turner:
                     value = self.clauses(it, f"c.{arm[0]}.{entry[0]}", entry[0])
                     continue
                 text = "c." + place[2][1]
+                part = list(map(norm, parts))
+                if parts and any(norm(e[1]) == norm(f) and list(map(norm, e[2]))[: len(part)] == part for e in (arm[2] if arm else [])):
+                    # a part of what an arm says, whose fields have names of their own now
+                    return ("step", text + "." + ".".join(parts), k, f, *parts)
                 if parts:
                     word = parts.pop(0)
                     word = dict((norm(a), b) for a, b in place[4]).get(norm(word), word)
-                    word = {"taken": "true", "left": "false"}.get(word, word)
+                    if norm(f) in self.n.loops:
+                        word = {"inv": "invariant"}.get(word, word)
+                    else:
+                        word = {"taken": "true", "left": "false"}.get(word, word)
                     text += "." + word
-                    if word == "new" and place[3]:
+                    if word in ("new", "auto") and place[3]:
                         params = self.n.of["params"].get(place[3]) or []
                         value = ("new", text, params)
                     else:
@@ -247,7 +254,7 @@ class Turner:
                     value = ("text", text)
                 continue
             if kind == "step":
-                value, parts = ("place", value[2]), [value[3], *parts]
+                value, parts = ("place", value[2]), [*value[3:], *parts]
                 continue
             if kind in ("new", "prod"):
                 names, text = value[2], value[1]
@@ -514,7 +521,7 @@ def words_of(text):
 
 def is_used(name, words, text):
     name = name.split(" as ")[-1].strip()
-    if name in words:
+    if name in words or name == "[]" and "[]" in text:
         return True
     if "◌" in name:
         parts = [it for it in re.split("◌|_", name) if it]
@@ -594,8 +601,61 @@ def over_a_place(b):
     return out
 
 
+def respelled(text, root):
+    """Writes a name of the repository's own modules as its module spells it now, where that is clear."""
+    turns = {}
+    for crate, part, at, names in re.findall(r"(?m)^(?:pub )?use Rattle\.(\w+)\.(specs|proofs)\.(\S+?)\.\{([^}]*)\}", text):
+        file = f"{root}/crates/{crate}/{part}/{at.replace('.', '/')}.antt"
+        if not os.path.isfile(file):
+            continue
+        there = {it for m in TOKEN.finditer(read(file)) for it in m[0].split(".")}
+        for name in (it.split(" as ")[0].strip() for it in names.split(",")):
+            if name in there or "◌" in name:
+                continue
+            like = [it for it in there if re.sub("[-_]", "", it).lower() == re.sub("[-_]", "", name).lower()]
+            if len(like) == 1:
+                turns[name] = like[0]
+    if not turns:
+        return text
+    out, before = [], ""
+    for m in TOKEN.finditer(text):
+        head, dot, rest = m[0].partition(".")
+        out.append(turns[head] + dot + rest if head in turns and before != "." else m[0])
+        before = m[0][-1:]
+    return "".join(out)
+
+
+def dashed_fields(text, words):
+    """Writes a field as the source names it, where an old proof has dashes."""
+    source, own = words
+    if not source:
+        return text
+
+    def one(m):
+        name = m[1]
+        return "." + source[name] if name in source and name not in own else m[0]
+
+    text = re.sub(r"(?<=[^\s(])\.([a-z]\w*(?:-\w+)+)(?![\w-])", one, text)
+    args = "|".join(map(re.escape, {"c.args", "s.args", *re.findall(r"let (\S+) = c\.args in", text)}))
+    return re.sub(r"(?<![^\s(\[])((?:%s)\.)([a-z]\w*(?:-\w+)+)(?![\w-])" % args, lambda m: m[1] + source.get(m[2], m[2]), text)
+
+
+def words_of_tree(root):
+    source = "".join(read(p) for p in glob.glob(f"{root}/crates/*/src/**/*.rt", recursive=True))
+    fields = {it.replace("_", "-"): it for it in re.findall(r"\b([a-z]\w*_\w+)\s*:(?!:)", source)}
+    own = set()
+    for p in glob.glob(f"{root}/crates/*/*/**/*.antt", recursive=True):
+        own |= set(re.findall(r"(?m)(?:^ +(?:pub )?|[{;] *)([a-z]\w*(?:-\w+)+) : ", read(p)))
+    return fields, own
+
+
+WORDS = {}
+
+
 def turn_file(path, crate, of, root):
-    text = read(path)
+    if root not in WORDS:
+        WORDS[root] = words_of_tree(root)
+    text = respelled(read(path), root)
     shown = os.path.relpath(path, root)
     n = Names(of)
     head, uses, blocks = split(text)
@@ -734,7 +794,11 @@ def turn_file(path, crate, of, root):
     if inv_text:
         parts = []
         for b in locals_:
-            if b in in_inv:
+            if b in in_inv and re.search(r"(?m)^(?:record|data) ", b.text):
+                shown_fields = lambda m: m[0] if " pub " in m[0] else f"  pub {m[1]} : "
+                code = re.sub(r"(?m)^(record|data) ", r"pub \1 ", b.text)
+                parts.append(re.sub(r"(?m)^  (%s) : " % W, shown_fields, code) if "pub record" in code else code)
+            elif b in in_inv:
                 parts.append(b.text if b.kind == "module" else re.sub(r"(?m)^((?:abbrev |unfoldable )?)(%s :\s)" % re.escape(b.names[0]), r"\1pub \2", b.text, count=1) if b.names and "pub " not in b.text else b.text)
         for it in inv_text:
             if isinstance(it, str):
@@ -744,11 +808,13 @@ def turn_file(path, crate, of, root):
             sep = "\n    " if "\n" in body else " "
             parts.append(f"{comment}abbrev pub {name} : goal.{name}\n" + (f"unfolding {unf}\n" if unf else "") + f"{name} l ={sep}{body}")
         code = "\n\n".join(parts)
+        code = dashed_fields(code, WORDS[root])
         write(f"{folder}/Invariants.antt", "\n".join(uses_for(uses, code) + [f"use {home}.Given as goal"]) + "\n\n" + code + "\n")
 
     if any(not isinstance(b, Block) for _, _, b in kept):
         parts = [code for _, code, b in kept if not isinstance(b, Block) or b in in_ans]
         code = "\n\n".join(parts)
+        code = dashed_fields(code, WORDS[root])
         lines = uses_for(uses, code)
         shared = [x for b in in_inv for x in b.names if x in words_of(code)]
         if shared:
@@ -904,12 +970,35 @@ def by_elim(text, arms, renames):
         text = "".join(tokens[:start]) + new + "".join(tokens[j + 1 :])
 
 
+def of_git(root, crate, at, new, home):
+    """Returns the head of an Answers.antt for an answer of a file that is gone: the use lines and the lemmas of the old Proof.antt."""
+    path = f"crates/{crate}/proofs/{at}/Proof.antt"
+    git = lambda *a: subprocess.run(["git", *a], cwd=root, capture_output=True, text=True).stdout
+    gone = git("log", "-1", "--format=%h", "--diff-filter=D", "--", path).strip()
+    shown = git("show", f"{gone}^:{path}" if gone else f"HEAD:{path}")
+    _, uses, blocks = split(respelled(shown, root))
+    kept = [b for b in past_modules(blocks) if "tie." not in b.text and any(x in words_of(new) for x in b.names)]
+    code = "\n\n".join(b.text for b in kept)
+    return "\n".join([*uses_for(uses, code + "\n" + new), f"use {home}.Goals as goal"]) + "\n" + (f"\n{code}\n" if code else "")
+
+
 def prune(crate, root, given=None):
     os.makedirs("/tmp/open", exist_ok=True)
-    taken, tried, stuck, said, added = {}, set(), [], "", {}
+    taken, tried, stuck, said, added, again = {}, set(), [], "", {}, {}
     names = None
+    # what an earlier run took out, where it is still not answered
+    memory = f"/tmp/open/{crate}.taken.json"
+    if os.path.isfile(memory):
+        for at, name, old, why in json.loads(read(memory)):
+            path = f"{root}/crates/{crate}/proofs/{at}/Answers.antt"
+            if not any(d[2] == name for d in (declared(read(path)) if os.path.isfile(path) else [])):
+                taken[at, name] = (old, why)
     for _ in range(6):
         said = check(crate, root)
+        below = re.search(r"(?m)^rt: the library (\S+) did not build", said)
+        if below and below[1] != crate:
+            print(f"{crate}: the library {below[1]} is not proved, so nothing was checked")
+            return
         found = re.findall(r"(?m)^\./proofs/(\S+)/Answers\.antt:(\d+):(\d+): error: `([^`]+)`: ([^\n]*(?:\n  [^\n]*){0,3})", said)
         moved = False
         for at, line, _col, name, why in sorted(set(found)):
@@ -921,16 +1010,23 @@ def prune(crate, root, given=None):
                 continue
             if (at, name) not in taken:
                 taken[at, name] = (text[it[0] : it[1]].strip(), why)
+            else:
+                again[at, name] = (text[it[0] : it[1]].strip(), why)
             text = text[: it[0]] + text[it[1] :]
             for line in added.pop((at, name), []):
                 text = text.replace(line, "", 1)
             write(path, text)
             moved = True
+            old = taken[at, name][0]
+            plain = re.sub(r"\((?:eqb|leb|ltb)-(?:true|false) _ _ ([cw]\.[^\s()]+)\)", r"\1", old)
+            if re.match(r"expected type `lib\.Dec\.", why) and plain != old and (at, name, "plain") not in tried:
+                tried.add((at, name, "plain"))
+                write(path, read(path).rstrip() + "\n\n" + plain + "\n")
         if moved:
             continue
         # what stays open, and has an old answer with a ⊎_elim, is written again with the arms that the check prints
         opened = set()
-        for at, goals in re.findall(r"(?m)^fn \S+: no proof: expected answers in \./proofs/(\S+)/Answers\.antt; `search` did not prove ([^\n]*)", said):
+        for at, goals in re.findall(r"(?m)^fn \S+: no proof: expected answers in \./proofs/(\S+)/Answers\.antt; `search` did not prove ([^\n;]*)", said):
             opened |= {(at, it) for it in re.findall(r"`([^`]+)`", goals)}
         for key in sorted(opened & set(taken) - tried):
             tried.add(key)
@@ -946,9 +1042,12 @@ def prune(crate, root, given=None):
             if got is None:
                 continue
             new, arms = got
+            # a test of a join is a proposition now, where it was an equation of `Bool`
+            is_raw = lambda m: m[2].endswith("-raw")
+            new = re.sub(r"\((eqb|leb|ltb)-(?:true|false) _ _ (w\.[^\s()]+)\)", lambda m: m[0] if is_raw(m) else m[2], new)
             path = f"{root}/crates/{crate}/proofs/{at}/Answers.antt"
             home = f"Rattle.{crate}.proofs.{at.replace('/', '.')}"
-            text = read(path)
+            text = read(path) if os.path.isfile(path) else of_git(root, crate, at, new, home)
             line = f"use {home}.Goals.{{{', '.join(dict.fromkeys(arms))}}}\n"
             if arms and line not in text:
                 added[key] = [line]
@@ -957,21 +1056,26 @@ def prune(crate, root, given=None):
             moved = True
         if not moved:
             break
+    write(memory, json.dumps([[at, name, old, why] for (at, name), (old, why) in taken.items()]))
     for path in {f"{root}/crates/{crate}/proofs/{at}/Answers.antt" for at, _ in taken}:
-        if not declared(read(path)):
+        if os.path.isfile(path) and not declared(read(path)):
             os.remove(path)
-    state = "proved" if re.search(r"(?m)^logic=proved", said) else "not proved"
-    functions = re.findall(r"(?m)^fn (\S+): (proved|not proved|no proof[^\n]*|could not tell)", said)
+    write(f"/tmp/open/{crate}.check", said)
+    state = "proved" if re.findall(r"(?m)^logic=(\S+)", said)[-1:] == ["proved"] else "not proved"
+    functions = re.findall(r"(?m)^fn (%s::\S+): (proved|not proved|no proof[^\n]*|could not tell)" % crate, said)
     lines = [f"{crate}: {state}; {sum(b == 'proved' for _, b in functions)} of {len(functions)} functions proved"]
     lines += [f"fn {a}: {b[:300]}" for a, b in functions if b != "proved"]
-    for at, goals in re.findall(r"(?m)^fn \S+: no proof: expected answers in \./proofs/(\S+)/Answers\.antt; `search` did not prove ([^\n]*)", said):
+    for at, goals in re.findall(r"(?m)^fn \S+: no proof: expected answers in \./proofs/(\S+)/Answers\.antt; `search` did not prove ([^\n;]*)", said):
         for name in re.findall(r"`([^`]+)`", goals):
             lines += ["", f"== crates/{crate}/proofs/{at}/Answers.antt: {name}"]
             notes = notes_of(said, at, True)
             if name in notes:
                 lines.append(f"must prove: {notes[name]}")
-            if (at, name) in taken:
-                lines += ["old answer:", taken[at, name][0], f"which failed: {taken[at, name][1]}"]
+            for key in dict.fromkeys([(at, name), (at, re.sub("-clause-.*", "", name))]):
+                if key in taken:
+                    lines += ["old answer:", taken[key][0], f"which failed: {taken[key][1]}"]
+                if key in again:
+                    lines += ["and then:", again[key][0], f"which failed: {again[key][1]}"]
     lines += ["", *dict.fromkeys(stuck)]
     others = re.findall(r"(?m)^\S+:\d+:\d+: error: [^\n]*", said)
     lines += ["", "errors of the last check:", *others] if others else []
@@ -1018,6 +1122,9 @@ def with_auto(crate, root):
 def turn(crate, root, given):
     files = [p for p in sorted(glob.glob(f"{root}/crates/{crate}/proofs/**/Proof.antt", recursive=True)) if "tie.close" in read(p)]
     with_auto(crate, root)
+    memory = f"/tmp/open/{crate}.taken.json"
+    if files and os.path.isfile(memory):
+        os.remove(memory)
     if not files:
         print(f"{crate}: nothing to turn")
         return

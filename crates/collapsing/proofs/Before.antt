@@ -7,17 +7,17 @@ use mathlib.Core.List.{List, [], ◌∷◌, map, Memᴰ}
 use native.Mathlib.Omega.{arith}
 use borrow.Author.Tests.{ne_eqb, eqb-false, ltb-false, leb-true, le-leb, not-false}
 use lib.Dec.{eqb, ltb, leb}
-use lib.ListN.{length, drop, get_or, length-map, length-take}
+use lib.ListN.{length, drop, length-take}
 use Rattle.kit.specs.Loops.{all, sum, count}
 use Rattle.kit.proofs.Bools.{and_true_l}
 use Rattle.kit.proofs.Meaning.{all_of}
 use Rattle.letters.proofs.Sequences.{length-oriented}
 use Rattle.handle.specs.declared.Handle.{Handle}
 use Rattle.handle.specs.Handle.{max_id, id_of, dir_of}
-use Rattle.store.specs.Graph.{Node, Graph, handle}
+use Rattle.store.specs.Graph.{Node, Graph}
 use Rattle.store.specs.Views.{node_named, len_of, largest, span, spell}
 use Rattle.formed.specs.WellFormed.{good_graph, ids_once}
-use Rattle.affix.specs.Prefix.{members_live, members_once, handles_of, group_prefix}
+use Rattle.affix.specs.Prefix.{members_live, members_once, group_prefix}
 use Rattle.affix.proofs.Prefix.{agrees_before}
 use Rattle.events.specs.Events.{Rules, Event, append_all}
 use Rattle.merging.specs.Merging.{is_long, collapsed}
@@ -30,7 +30,7 @@ use Rattle.longer.specs.Ahead.{events_by}
 use Rattle.longer.specs.Longer.{Passed}
 use Rattle.collapsing.specs.Ready.{lists_fit, ready_number}
 use Rattle.longer.proofs.Appending.{rule-count, step_count}
-use Rattle.longer.proofs.ByMember.{length_in, event-count, event-steps}
+use Rattle.longer.proofs.ByMember.{event-count, event-steps}
 use Rattle.collapsing.proofs.Foreseen.{events_are}
 
 -- a test whose number is not given was not met

@@ -1,7 +1,7 @@
 -- The events that the code makes ahead are those of the collapse: a member's length and the fresh ids are known before.
 use Prim.Native.Nat.{ℕ, ◌+◌, ◌-◌}
 use mathlib.Core.Path.{◌≡◌, refl, ap, ap₂, ◌∙◌}
-use mathlib.Core.Bool.{Bool, cond}
+use mathlib.Core.Bool.{cond}
 use mathlib.Core.List.{List, [], ◌∷◌, ◌++◌, Memᴰ}
 use lib.Dec.{ltb}
 use Rattle.handle.specs.declared.Handle.{Handle}
@@ -10,7 +10,7 @@ use Rattle.store.specs.Graph.{Node, Graph}
 use Rattle.store.specs.Views.{node_named}
 use Rattle.events.specs.Events.{Step, Event, event, step_to, turn_steps}
 use Rattle.split.specs.Split.{fresh_id}
-use Rattle.merging.specs.Merging.{is_long, is_forward, alone, prefix_of, later}
+use Rattle.merging.specs.Merging.{is_forward, alone, prefix_of, later}
 use Rattle.merging.specs.Plan.{fresh_after, suffix_by}
 use Rattle.merged.proofs.Members.{Collapses, same_len}
 use Rattle.merged.proofs.Theorems.{Shares, turn, left, still, first, others, shares}

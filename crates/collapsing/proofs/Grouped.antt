@@ -1,5 +1,5 @@
 -- A collapse that nothing but the room for links can refuse: what its parts ask for holds, and what they leave is its outcome.
-use Prim.Native.Nat.{ℕ, ◌+◌, ◌*◌, ◌≤◌, ◌<◌, ◌^◌}
+use Prim.Native.Nat.{ℕ, ◌+◌, ◌*◌, ◌≤◌}
 use mathlib.Core.Path.{◌≡◌, refl, sym, ap, ap₂, ◌∙◌}
 use mathlib.Core.Bool.{Bool, true, false, cond, not, ◌&&◌}
 use mathlib.Core.List.{List, [], ◌∷◌, map}
@@ -12,20 +12,20 @@ use Rattle.kit.proofs.Bools.{and_true_l, and_true_r}
 use Rattle.kit.proofs.Laws.{length-decode}
 use Rattle.handle.specs.declared.Handle.{Handle}
 use Rattle.store.specs.declared.Counts.{Counts}
-use Rattle.store.specs.Graph.{Node, Link, Graph, node_layout, nodes_of, links_of, graph_of}
+use Rattle.store.specs.Graph.{Node, Link, Graph, node_layout, nodes_of, graph_of}
 use Rattle.store.specs.Views.{named, node_named}
 use Rattle.formed.specs.WellFormed.{good_node, good_graph, well_formed, ids_once, room_for}
 use Rattle.formed.proofs.Says.{Room, node_says, formed_room, formed_good}
 use Rattle.events.specs.declared.Used.{Used}
 use Rattle.events.specs.Events.{Rules, Event, list_of, append_all}
-use Rattle.merging.specs.Merging.{shared_node, collapsed}
+use Rattle.merging.specs.Merging.{shared_node}
 use Rattle.merging.specs.Plan.{dim, long_by, planned}
 use Rattle.linking.specs.Fit.{Plans}
 use Rattle.merged.proofs.Asked.{plans_good}
 use Rattle.merged.proofs.Members.{Collapses}
 use Rattle.merged.proofs.NodesAlone.{nodes_are}
 use Rattle.merged.proofs.Theorems.{links_are, counts_same}
-use Rattle.collapsing.specs.Making.{State, state, state_after, members_number, group_number, collapse_number, fits}
+use Rattle.collapsing.specs.Making.{State, state_after, members_number, group_number, fits}
 use Rattle.collapsing.specs.Ready.{lists_fit, links_fit, ready_number}
 use Rattle.longer.specs.Ahead.{events_by}
 use Rattle.longer.specs.Longer.{Passed, RoomFor, beginning}

@@ -6,8 +6,8 @@ use Rattle.letters.specs.Letters.{complement_of, upper_of, is_base, is_letter}
 use Rattle.handle.specs.declared.Handle.{Handle}
 use Rattle.handle.specs.Handle.{pack, flip, before}
 use Rattle.handle.specs.Edge.{edge, written}
-use Rattle.store.specs.Graph.{Graph, node, link}
-use Rattle.events.specs.Events.{Rules, rule, step}
+use Rattle.store.specs.Graph.{node, link}
+use Rattle.events.specs.Events.{rule, step}
 use Rattle.collapsing.specs.Making.{State, Room, state, longer, group_number, collapse_number}
 
 abbrev pub s : State

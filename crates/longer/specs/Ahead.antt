@@ -1,6 +1,6 @@
 -- How the code makes the events: from the nodes before the collapse and a running fresh id, before anything is stored.
 use Rattle.std.specs.Prelude.{ℕ, ◌+◌, ◌-◌, Bool, cond, not, List, [], ◌∷◌, ◌++◌}
-use Rattle.kit.specs.Loops.{all, any, lines}
+use Rattle.kit.specs.Loops.{all, any}
 use Rattle.handle.specs.declared.Handle.{Handle}
 use Rattle.handle.specs.Handle.{id_of}
 use Rattle.store.specs.Graph.{Node}

@@ -1,10 +1,9 @@
 -- The turns of the loops that write: one element after another, and one step of a walk after another.
-use Prim.Native.Nat.{ℕ, suc, ◌+◌, ◌≤◌, ◌<◌}
+use Prim.Native.Nat.{ℕ, ◌+◌, ◌≤◌, ◌<◌}
 use mathlib.Core.Path.{◌≡◌, refl, sym, ap, ◌∙◌}
 use mathlib.Core.List.{List, ◌++◌}
-use native.Mathlib.Nat.{add-zero}
 use native.Mathlib.Omega.{arith}
-use lib.ListN.{length, drop, get_or, set, length-append, length-set, drop_of_length-le}
+use lib.ListN.{length, drop, get_or, length-append}
 use lib.Seq.{sets, length-sets}
 use Rattle.kit.specs.Loops.{lines}
 use Rattle.kit.specs.Put.{Put}
@@ -12,7 +11,6 @@ use Rattle.kit.proofs.Writes.{put-left, sets-front, lines_more, lines_end}
 use Rattle.handle.specs.declared.Handle.{Handle}
 use Rattle.store.specs.Graph.{handle}
 use Rattle.affix.specs.Prefix.{handles_of}
-use Rattle.kit.proofs.Steps.{left_at}
 use Rattle.affix.proofs.Runs.{left-handle, no_handle}
 
 -- what f gives for the first i steps of a walk stands at the front of the room, which goes on at `at`

@@ -1,7 +1,7 @@
 -- Where the pieces of bytes end, and what a caller gets of a piece's end.
 use Prim.Native.Nat.{ℕ, suc, ◌+◌, ◌-◌, ◌≤◌, ◌<◌}
 use mathlib.Core.Path.{◌≡◌, refl, sym, ap, ◌∙◌}
-use mathlib.Core.Bool.{Bool, true, false, cond, ◌&&◌, ◌||◌}
+use mathlib.Core.Bool.{Bool, true, false, cond, ◌||◌}
 use mathlib.Core.List.{List, [], ◌∷◌}
 use native.Mathlib.Omega.{arith}
 use borrow.Author.Tests.{eq-eqb, ne_eqb, eqb-true, eqb-false, lt-ltb, le-ltb, le-leb, lt-leb}
@@ -12,7 +12,7 @@ use Rattle.kit.specs.Loops.{any}
 use Rattle.kit.proofs.Bools.{tests, eqb_sym}
 use Rattle.kit.proofs.Steps.{left_at}
 use Rattle.text.specs.Pieces.{put_first, pieces, field, is_line}
-use Rattle.text.specs.Search.{after, Piece}
+use Rattle.text.specs.Search.{Piece}
 
 module _ (sep : ℕ) (bs : List ℕ) where
   -- a turn of the search: at the separator, past another byte, at the end

@@ -1,13 +1,12 @@
 -- 01's lines and their numbers, on small ones.
-use Prim.Native.Nat.{ℕ}
 use mathlib.Core.Path.{◌≡◌, refl}
-use mathlib.Core.Bool.{Bool, true, false}
-use mathlib.Core.List.{List, [], ◌∷◌, map}
+use mathlib.Core.Bool.{true, false}
+use mathlib.Core.List.{[], ◌∷◌, map}
 use Rattle.letters.specs.Letters.{complement_of, is_letter}
 use Rattle.text.specs.Bytes.{bytes}
 use Rattle.text.specs.Pieces.{lines_of, fields_of, is_line}
 use Rattle.text.specs.Names.{is_name}
-use Rattle.text.specs.Steps.{walk_steps, path_handles, walk_handles}
+use Rattle.text.specs.Steps.{walk_steps}
 use Rattle.text.specs.Header.{header_of}
 use Rattle.text.specs.Fields.{line_number, handles_said, shape_number}
 

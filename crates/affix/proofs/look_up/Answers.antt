@@ -25,71 +25,71 @@ returns-in_default c =
 pub overflow_mul-result : goal.overflow_mul-result
 overflow_mul-result c =
     let found : NodeFound c.args.count c.args.nodes.now (id_of (handle c.args.member)) c.in-At.i =
-      let a = c.args in
-      here a.count a.nodes.now _ a.member c.id.ensures c.in-At.i (sym c.find_node.ensures ∙ c.in-At.is)
+    let a = c.args in
+    here a.count a.nodes.now _ a.member c.id.ensures c.in-At.i (sym c.find_node.ensures ∙ c.in-At.is)
     in
     omega (arith, (found).within)
 
 pub overflow_add-result : goal.overflow_add-result
 overflow_add-result c =
     let found : NodeFound c.args.count c.args.nodes.now (id_of (handle c.args.member)) c.in-At.i =
-      let a = c.args in
-      here a.count a.nodes.now _ a.member c.id.ensures c.in-At.i (sym c.find_node.ensures ∙ c.in-At.is)
+    let a = c.args in
+    here a.count a.nodes.now _ a.member c.id.ensures c.in-At.i (sym c.find_node.ensures ∙ c.in-At.is)
     in
     omega (arith, (found).within)
 
 pub offset_bounds-nodes-i : goal.offset_bounds-nodes-i
 offset_bounds-nodes-i c =
     let found : NodeFound c.args.count c.args.nodes.now (id_of (handle c.args.member)) c.in-At.i =
-      let a = c.args in
-      here a.count a.nodes.now _ a.member c.id.ensures c.in-At.i (sym c.find_node.ensures ∙ c.in-At.is)
+    let a = c.args in
+    here a.count a.nodes.now _ a.member c.id.ensures c.in-At.i (sym c.find_node.ensures ∙ c.in-At.is)
     in
     omega (arith, (found).within)
 
 pub bounds-nodes-i : goal.bounds-nodes-i
 bounds-nodes-i c =
     let found : NodeFound c.args.count c.args.nodes.now (id_of (handle c.args.member)) c.in-At.i =
-      let a = c.args in
-      here a.count a.nodes.now _ a.member c.id.ensures c.in-At.i (sym c.find_node.ensures ∙ c.in-At.is)
+    let a = c.args in
+    here a.count a.nodes.now _ a.member c.id.ensures c.in-At.i (sym c.find_node.ensures ∙ c.in-At.is)
     in
     omega (arith, (found).within)
 
 pub overflow_mul-result-2 : goal.overflow_mul-result-2
 overflow_mul-result-2 c =
     let found : NodeFound c.args.count c.args.nodes.now (id_of (handle c.args.member)) c.in-At.i =
-      let a = c.args in
-      here a.count a.nodes.now _ a.member c.id.ensures c.in-At.i (sym c.find_node.ensures ∙ c.in-At.is)
+    let a = c.args in
+    here a.count a.nodes.now _ a.member c.id.ensures c.in-At.i (sym c.find_node.ensures ∙ c.in-At.is)
     in
     omega (arith, (found).within)
 
 pub overflow_add-result-2 : goal.overflow_add-result-2
 overflow_add-result-2 c =
     let found : NodeFound c.args.count c.args.nodes.now (id_of (handle c.args.member)) c.in-At.i =
-      let a = c.args in
-      here a.count a.nodes.now _ a.member c.id.ensures c.in-At.i (sym c.find_node.ensures ∙ c.in-At.is)
+    let a = c.args in
+    here a.count a.nodes.now _ a.member c.id.ensures c.in-At.i (sym c.find_node.ensures ∙ c.in-At.is)
     in
     omega (arith, (found).within)
 
 pub offset_bounds-nodes-i-2 : goal.offset_bounds-nodes-i-2
 offset_bounds-nodes-i-2 c =
     let found : NodeFound c.args.count c.args.nodes.now (id_of (handle c.args.member)) c.in-At.i =
-      let a = c.args in
-      here a.count a.nodes.now _ a.member c.id.ensures c.in-At.i (sym c.find_node.ensures ∙ c.in-At.is)
+    let a = c.args in
+    here a.count a.nodes.now _ a.member c.id.ensures c.in-At.i (sym c.find_node.ensures ∙ c.in-At.is)
     in
     omega (arith, (found).within)
 
 pub bounds-nodes-i-2 : goal.bounds-nodes-i-2
 bounds-nodes-i-2 c =
     let found : NodeFound c.args.count c.args.nodes.now (id_of (handle c.args.member)) c.in-At.i =
-      let a = c.args in
-      here a.count a.nodes.now _ a.member c.id.ensures c.in-At.i (sym c.find_node.ensures ∙ c.in-At.is)
+    let a = c.args in
+    here a.count a.nodes.now _ a.member c.id.ensures c.in-At.i (sym c.find_node.ensures ∙ c.in-At.is)
     in
     omega (arith, (found).within)
 
 pub returns : goal.returns
 returns c =
     let found : NodeFound c.args.count c.args.nodes.now (id_of (handle c.args.member)) c.in-At.i =
-      let a = c.args in
-      here a.count a.nodes.now _ a.member c.id.ensures c.in-At.i (sym c.find_node.ensures ∙ c.in-At.is)
+    let a = c.args in
+    here a.count a.nodes.now _ a.member c.id.ensures c.in-At.i (sym c.find_node.ensures ∙ c.in-At.is)
     in
     ap₂ reading c.direction-direction.ensures (sym (found).here)

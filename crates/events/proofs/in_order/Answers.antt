@@ -17,87 +17,87 @@ loop-i-init c = (omega arith, λ total t. refl)
 pub overflow_mul-first : goal.overflow_mul-first
 overflow_mul-first c =
     let room : RuleRoom c.args.rules.now c.args.steps.now c.args.c =
-      table-room c.args.rules.now c.args.steps.now c.args.c c.requires
+    table-room c.args.rules.now c.args.steps.now c.args.c c.requires
     in
     omega (arith, room)
 
 pub overflow_add-first : goal.overflow_add-first
 overflow_add-first c =
     let room : RuleRoom c.args.rules.now c.args.steps.now c.args.c =
-      table-room c.args.rules.now c.args.steps.now c.args.c c.requires
+    table-room c.args.rules.now c.args.steps.now c.args.c c.requires
     in
     omega (arith, room)
 
 pub offset_bounds-rules-i : goal.offset_bounds-rules-i
 offset_bounds-rules-i c =
     let room : RuleRoom c.args.rules.now c.args.steps.now c.args.c =
-      table-room c.args.rules.now c.args.steps.now c.args.c c.requires
+    table-room c.args.rules.now c.args.steps.now c.args.c c.requires
     in
     omega (arith, room)
 
 pub bounds-rules-i : goal.bounds-rules-i
 bounds-rules-i c =
     let room : RuleRoom c.args.rules.now c.args.steps.now c.args.c =
-      table-room c.args.rules.now c.args.steps.now c.args.c c.requires
+    table-room c.args.rules.now c.args.steps.now c.args.c c.requires
     in
     omega (arith, room)
 
 pub overflow_mul-end : goal.overflow_mul-end
 overflow_mul-end c =
     let room : RuleRoom c.args.rules.now c.args.steps.now c.args.c =
-      table-room c.args.rules.now c.args.steps.now c.args.c c.requires
+    table-room c.args.rules.now c.args.steps.now c.args.c c.requires
     in
     omega (arith, room)
 
 pub overflow_add-end : goal.overflow_add-end
 overflow_add-end c =
     let room : RuleRoom c.args.rules.now c.args.steps.now c.args.c =
-      table-room c.args.rules.now c.args.steps.now c.args.c c.requires
+    table-room c.args.rules.now c.args.steps.now c.args.c c.requires
     in
     omega (arith, room)
 
 pub offset_bounds-rules-i-in-loop-i : goal.offset_bounds-rules-i-in-loop-i
 offset_bounds-rules-i-in-loop-i c =
     let room : RuleRoom c.args.rules.now c.args.steps.now c.args.c =
-      table-room c.args.rules.now c.args.steps.now c.args.c c.requires
+    table-room c.args.rules.now c.args.steps.now c.args.c c.requires
     in
     omega (arith, room)
 
 pub bounds-rules-i-in-loop-i : goal.bounds-rules-i-in-loop-i
 bounds-rules-i-in-loop-i c =
     let room : RuleRoom c.args.rules.now c.args.steps.now c.args.c =
-      table-room c.args.rules.now c.args.steps.now c.args.c c.requires
+    table-room c.args.rules.now c.args.steps.now c.args.c c.requires
     in
     omega (arith, room)
 
 pub overflow_add-end-in-loop-i : goal.overflow_add-end-in-loop-i
 overflow_add-end-in-loop-i c =
     let room : RuleRoom c.args.rules.now c.args.steps.now c.args.c =
-      table-room c.args.rules.now c.args.steps.now c.args.c c.requires
+    table-room c.args.rules.now c.args.steps.now c.args.c c.requires
     in
     let inside : let r = rule_at c.args.rules.now c.loop-i.i in r.first + r.steps ≤ c.args.c.steps =
-      table-inside c.args.rules.now c.args.steps.now c.args.c c.requires c.loop-i.i (omega arith)
+    table-inside c.args.rules.now c.args.steps.now c.args.c c.requires c.loop-i.i (omega arith)
     in
     omega (arith, room, inside)
 
 pub steps_later-requires : goal.steps_later-requires
 steps_later-requires c =
     let room : RuleRoom c.args.rules.now c.args.steps.now c.args.c =
-      table-room c.args.rules.now c.args.steps.now c.args.c c.requires
+    table-room c.args.rules.now c.args.steps.now c.args.c c.requires
     in
     let inside : let r = rule_at c.args.rules.now c.loop-i.i in r.first + r.steps ≤ c.args.c.steps =
-      table-inside c.args.rules.now c.args.steps.now c.args.c c.requires c.loop-i.i (omega arith)
+    table-inside c.args.rules.now c.args.steps.now c.args.c c.requires c.loop-i.i (omega arith)
     in
     (omega (arith, room), omega (arith, room, inside))
 
 pub returns-then-not-steps_later : goal.returns-then-not-steps_later
 returns-then-not-steps_later c =
     let said : (total : ℕ) → table_formed c.args.rules.now c.args.steps.now (used c.args.c.rules total) ≡ true → steps_later (rules_of (c.loop-i.i + 1) c.args.rules.now) (walk_of (steps_of total c.args.steps.now) (rule_at c.args.rules.now c.loop-i.i)) ≡ c.steps_later.result =
-      λ total t. let a = c.args in
-      let i = c.loop-i.i in
-      let r = rule_at a.rules.now i in
-      ap (steps_later (rules_of (i + 1) a.rules.now)) (walk_is total a.steps.now r (table-inside a.rules.now a.steps.now (used a.c.rules total) t i (omega arith)))
-      ∙ sym c.steps_later.ensures
+    λ total t. let a = c.args in
+    let i = c.loop-i.i in
+    let r = rule_at a.rules.now i in
+    ap (steps_later (rules_of (i + 1) a.rules.now)) (walk_is total a.steps.now r (table-inside a.rules.now a.steps.now (used a.c.rules total) t i (omega arith)))
+    ∙ sym c.steps_later.ensures
     in
     let a = c.args in
     sym (order_fail a.rules.now (steps_of a.c.steps a.steps.now) a.c.rules c.loop-i.i (omega arith) (said a.c.steps c.requires ∙ not-true _ c.if-not-steps_later.true-raw)) ∙ c.loop-i.invariant.1 a.c.steps c.requires
@@ -105,11 +105,11 @@ returns-then-not-steps_later c =
 pub loop-i-preserved : goal.loop-i-preserved
 loop-i-preserved c =
     let said : (total : ℕ) → table_formed c.args.rules.now c.args.steps.now (used c.args.c.rules total) ≡ true → steps_later (rules_of (c.loop-i.i + 1) c.args.rules.now) (walk_of (steps_of total c.args.steps.now) (rule_at c.args.rules.now c.loop-i.i)) ≡ c.steps_later.result =
-      λ total t. let a = c.args in
-      let i = c.loop-i.i in
-      let r = rule_at a.rules.now i in
-      ap (steps_later (rules_of (i + 1) a.rules.now)) (walk_is total a.steps.now r (table-inside a.rules.now a.steps.now (used a.c.rules total) t i (omega arith)))
-      ∙ sym c.steps_later.ensures
+    λ total t. let a = c.args in
+    let i = c.loop-i.i in
+    let r = rule_at a.rules.now i in
+    ap (steps_later (rules_of (i + 1) a.rules.now)) (walk_is total a.steps.now r (table-inside a.rules.now a.steps.now (used a.c.rules total) t i (omega arith)))
+    ∙ sym c.steps_later.ensures
     in
     let a = c.args in
     (omega arith, λ total t. sym (order_pass a.rules.now (steps_of total a.steps.now) a.c.rules c.loop-i.i (omega arith) (said total t ∙ not-false _ c.if-not-steps_later.false-raw)) ∙ c.loop-i.invariant.1 total t)

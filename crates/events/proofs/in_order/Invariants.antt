@@ -5,7 +5,6 @@ use Rattle.events.specs.declared.Used.{Used}
 use Rattle.events.specs.Events.{steps_of, list_of}
 use Rattle.events.specs.WellFormed.{table_formed, in_order}
 use Rattle.events.proofs.Order.{left}
-use borrow.Author.Rules.{rules}
 use Rattle.events.proofs.in_order.Given as goal
 
 abbrev pub used : ℕ → ℕ → Used

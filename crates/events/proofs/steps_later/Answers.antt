@@ -18,9 +18,9 @@ is_later met s = not (any (keyed (id_of s.node) s.len) met)
 pub returns-then-key_met : goal.returns-then-key_met
 returns-then-key_met c =
     let said : is_later (rules_of c.args.met c.args.rules.now) (step_at c.args.steps.now c.loop-j.j) ≡ not c.key_met.result =
-      let a = c.args in
-      let s = step_at a.steps.now c.loop-j.j in
-      ap not (sym (c.key_met.ensures ∙ ap (λ (j : ℕ). any (keyed j s.len) (rules_of a.met a.rules.now)) c.id.ensures))
+    let a = c.args in
+    let s = step_at a.steps.now c.loop-j.j in
+    ap not (sym (c.key_met.ensures ∙ ap (λ (j : ℕ). any (keyed j s.len) (rules_of a.met a.rules.now)) c.id.ensures))
     in
     let a = c.args in
     let more = left_step a.end c.loop-j.j a.steps.now (omega arith) in
@@ -29,9 +29,9 @@ returns-then-key_met c =
 pub loop-j-preserved : goal.loop-j-preserved
 loop-j-preserved c =
     let said : is_later (rules_of c.args.met c.args.rules.now) (step_at c.args.steps.now c.loop-j.j) ≡ not c.key_met.result =
-      let a = c.args in
-      let s = step_at a.steps.now c.loop-j.j in
-      ap not (sym (c.key_met.ensures ∙ ap (λ (j : ℕ). any (keyed j s.len) (rules_of a.met a.rules.now)) c.id.ensures))
+    let a = c.args in
+    let s = step_at a.steps.now c.loop-j.j in
+    ap not (sym (c.key_met.ensures ∙ ap (λ (j : ℕ). any (keyed j s.len) (rules_of a.met a.rules.now)) c.id.ensures))
     in
     let a = c.args in
     let more = left_step a.end c.loop-j.j a.steps.now (omega arith) in

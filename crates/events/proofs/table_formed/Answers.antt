@@ -15,17 +15,17 @@ returns-then-not-room_for_rules c = rw (sym c.room_for_rules.ensures ∙ not-tru
 pub good_rules-requires : goal.good_rules-requires
 good_rules-requires c =
     let passed : room_for_rules c.args.rules.now c.args.steps.now c.args.c ≡ true =
-      sym c.room_for_rules.ensures ∙ not-false _ c.if-not-room_for_rules.false-raw
+    sym c.room_for_rules.ensures ∙ not-false _ c.if-not-room_for_rules.false-raw
     in
     let room : RuleRoom c.args.rules.now c.args.steps.now c.args.c =
-      let a = c.args in room_says a.rules.now a.steps.now a.c (passed)
+    let a = c.args in room_says a.rules.now a.steps.now a.c (passed)
     in
     (room).rule_room
 
 pub returns-then-not-good_rules : goal.returns-then-not-good_rules
 returns-then-not-good_rules c =
     let passed : room_for_rules c.args.rules.now c.args.steps.now c.args.c ≡ true =
-      sym c.room_for_rules.ensures ∙ not-false _ c.if-not-room_for_rules.false-raw
+    sym c.room_for_rules.ensures ∙ not-false _ c.if-not-room_for_rules.false-raw
     in
     let a = c.args in
     let ruled : ℕ → Bool = λ n. all (good_rule n) (rules_of a.c.rules a.rules.now) in
@@ -35,17 +35,17 @@ returns-then-not-good_rules c =
 pub good_steps-requires : goal.good_steps-requires
 good_steps-requires c =
     let passed : room_for_rules c.args.rules.now c.args.steps.now c.args.c ≡ true =
-      sym c.room_for_rules.ensures ∙ not-false _ c.if-not-room_for_rules.false-raw
+    sym c.room_for_rules.ensures ∙ not-false _ c.if-not-room_for_rules.false-raw
     in
     let room : RuleRoom c.args.rules.now c.args.steps.now c.args.c =
-      let a = c.args in room_says a.rules.now a.steps.now a.c (passed)
+    let a = c.args in room_says a.rules.now a.steps.now a.c (passed)
     in
     (room).step_room
 
 pub returns : goal.returns
 returns c =
     let passed : room_for_rules c.args.rules.now c.args.steps.now c.args.c ≡ true =
-      sym c.room_for_rules.ensures ∙ not-false _ c.if-not-room_for_rules.false-raw
+    sym c.room_for_rules.ensures ∙ not-false _ c.if-not-room_for_rules.false-raw
     in
     let a = c.args in
     let ruled : ℕ → Bool = λ n. all (good_rule n) (rules_of a.c.rules a.rules.now) in

@@ -17,81 +17,81 @@ returns-in_default c =
 pub overflow_mul-start : goal.overflow_mul-start
 overflow_mul-start c =
     let found : Reads c.args.nodes.now c.args.text.now c.args.c c.args.u c.in-At.i =
-      let a = c.args in
-      reads_first a.nodes.now a.text.now a.c a.u c.in-At.i c.requires.nodes_in_bounds.1 c.requires.nodes_value
-      (ap (λ (k : ℕ). find_node k (nodes_of a.c.nodes a.nodes.now)) (sym c.id.ensures) ∙ sym c.find_node.ensures ∙ c.in-At.is)
+    let a = c.args in
+    reads_first a.nodes.now a.text.now a.c a.u c.in-At.i c.requires.nodes_in_bounds.1 c.requires.nodes_value
+    (ap (λ (k : ℕ). find_node k (nodes_of a.c.nodes a.nodes.now)) (sym c.id.ensures) ∙ sym c.find_node.ensures ∙ c.in-At.is)
     in
     omega (arith, (found).slot)
 
 pub overflow_add-start : goal.overflow_add-start
 overflow_add-start c =
     let found : Reads c.args.nodes.now c.args.text.now c.args.c c.args.u c.in-At.i =
-      let a = c.args in
-      reads_first a.nodes.now a.text.now a.c a.u c.in-At.i c.requires.nodes_in_bounds.1 c.requires.nodes_value
-      (ap (λ (k : ℕ). find_node k (nodes_of a.c.nodes a.nodes.now)) (sym c.id.ensures) ∙ sym c.find_node.ensures ∙ c.in-At.is)
+    let a = c.args in
+    reads_first a.nodes.now a.text.now a.c a.u c.in-At.i c.requires.nodes_in_bounds.1 c.requires.nodes_value
+    (ap (λ (k : ℕ). find_node k (nodes_of a.c.nodes a.nodes.now)) (sym c.id.ensures) ∙ sym c.find_node.ensures ∙ c.in-At.is)
     in
     omega (arith, (found).slot)
 
 pub offset_bounds-nodes-i : goal.offset_bounds-nodes-i
 offset_bounds-nodes-i c =
     let found : Reads c.args.nodes.now c.args.text.now c.args.c c.args.u c.in-At.i =
-      let a = c.args in
-      reads_first a.nodes.now a.text.now a.c a.u c.in-At.i c.requires.nodes_in_bounds.1 c.requires.nodes_value
-      (ap (λ (k : ℕ). find_node k (nodes_of a.c.nodes a.nodes.now)) (sym c.id.ensures) ∙ sym c.find_node.ensures ∙ c.in-At.is)
+    let a = c.args in
+    reads_first a.nodes.now a.text.now a.c a.u c.in-At.i c.requires.nodes_in_bounds.1 c.requires.nodes_value
+    (ap (λ (k : ℕ). find_node k (nodes_of a.c.nodes a.nodes.now)) (sym c.id.ensures) ∙ sym c.find_node.ensures ∙ c.in-At.is)
     in
     omega (arith, (found).slot)
 
 pub bounds-nodes-i : goal.bounds-nodes-i
 bounds-nodes-i c =
     let found : Reads c.args.nodes.now c.args.text.now c.args.c c.args.u c.in-At.i =
-      let a = c.args in
-      reads_first a.nodes.now a.text.now a.c a.u c.in-At.i c.requires.nodes_in_bounds.1 c.requires.nodes_value
-      (ap (λ (k : ℕ). find_node k (nodes_of a.c.nodes a.nodes.now)) (sym c.id.ensures) ∙ sym c.find_node.ensures ∙ c.in-At.is)
+    let a = c.args in
+    reads_first a.nodes.now a.text.now a.c a.u c.in-At.i c.requires.nodes_in_bounds.1 c.requires.nodes_value
+    (ap (λ (k : ℕ). find_node k (nodes_of a.c.nodes a.nodes.now)) (sym c.id.ensures) ∙ sym c.find_node.ensures ∙ c.in-At.is)
     in
     omega (arith, (found).slot)
 
 pub overflow_mul-len : goal.overflow_mul-len
 overflow_mul-len c =
     let found : Reads c.args.nodes.now c.args.text.now c.args.c c.args.u c.in-At.i =
-      let a = c.args in
-      reads_first a.nodes.now a.text.now a.c a.u c.in-At.i c.requires.nodes_in_bounds.1 c.requires.nodes_value
-      (ap (λ (k : ℕ). find_node k (nodes_of a.c.nodes a.nodes.now)) (sym c.id.ensures) ∙ sym c.find_node.ensures ∙ c.in-At.is)
+    let a = c.args in
+    reads_first a.nodes.now a.text.now a.c a.u c.in-At.i c.requires.nodes_in_bounds.1 c.requires.nodes_value
+    (ap (λ (k : ℕ). find_node k (nodes_of a.c.nodes a.nodes.now)) (sym c.id.ensures) ∙ sym c.find_node.ensures ∙ c.in-At.is)
     in
     omega (arith, (found).slot)
 
 pub overflow_add-len : goal.overflow_add-len
 overflow_add-len c =
     let found : Reads c.args.nodes.now c.args.text.now c.args.c c.args.u c.in-At.i =
-      let a = c.args in
-      reads_first a.nodes.now a.text.now a.c a.u c.in-At.i c.requires.nodes_in_bounds.1 c.requires.nodes_value
-      (ap (λ (k : ℕ). find_node k (nodes_of a.c.nodes a.nodes.now)) (sym c.id.ensures) ∙ sym c.find_node.ensures ∙ c.in-At.is)
+    let a = c.args in
+    reads_first a.nodes.now a.text.now a.c a.u c.in-At.i c.requires.nodes_in_bounds.1 c.requires.nodes_value
+    (ap (λ (k : ℕ). find_node k (nodes_of a.c.nodes a.nodes.now)) (sym c.id.ensures) ∙ sym c.find_node.ensures ∙ c.in-At.is)
     in
     omega (arith, (found).slot)
 
 pub offset_bounds-nodes-i-2 : goal.offset_bounds-nodes-i-2
 offset_bounds-nodes-i-2 c =
     let found : Reads c.args.nodes.now c.args.text.now c.args.c c.args.u c.in-At.i =
-      let a = c.args in
-      reads_first a.nodes.now a.text.now a.c a.u c.in-At.i c.requires.nodes_in_bounds.1 c.requires.nodes_value
-      (ap (λ (k : ℕ). find_node k (nodes_of a.c.nodes a.nodes.now)) (sym c.id.ensures) ∙ sym c.find_node.ensures ∙ c.in-At.is)
+    let a = c.args in
+    reads_first a.nodes.now a.text.now a.c a.u c.in-At.i c.requires.nodes_in_bounds.1 c.requires.nodes_value
+    (ap (λ (k : ℕ). find_node k (nodes_of a.c.nodes a.nodes.now)) (sym c.id.ensures) ∙ sym c.find_node.ensures ∙ c.in-At.is)
     in
     omega (arith, (found).slot)
 
 pub bounds-nodes-i-2 : goal.bounds-nodes-i-2
 bounds-nodes-i-2 c =
     let found : Reads c.args.nodes.now c.args.text.now c.args.c c.args.u c.in-At.i =
-      let a = c.args in
-      reads_first a.nodes.now a.text.now a.c a.u c.in-At.i c.requires.nodes_in_bounds.1 c.requires.nodes_value
-      (ap (λ (k : ℕ). find_node k (nodes_of a.c.nodes a.nodes.now)) (sym c.id.ensures) ∙ sym c.find_node.ensures ∙ c.in-At.is)
+    let a = c.args in
+    reads_first a.nodes.now a.text.now a.c a.u c.in-At.i c.requires.nodes_in_bounds.1 c.requires.nodes_value
+    (ap (λ (k : ℕ). find_node k (nodes_of a.c.nodes a.nodes.now)) (sym c.id.ensures) ∙ sym c.find_node.ensures ∙ c.in-At.is)
     in
     omega (arith, (found).slot)
 
 pub read_letter-requires : goal.read_letter-requires
 read_letter-requires c =
     let found : Reads c.args.nodes.now c.args.text.now c.args.c c.args.u c.in-At.i =
-      let a = c.args in
-      reads_first a.nodes.now a.text.now a.c a.u c.in-At.i c.requires.nodes_in_bounds.1 c.requires.nodes_value
-      (ap (λ (k : ℕ). find_node k (nodes_of a.c.nodes a.nodes.now)) (sym c.id.ensures) ∙ sym c.find_node.ensures ∙ c.in-At.is)
+    let a = c.args in
+    reads_first a.nodes.now a.text.now a.c a.u c.in-At.i c.requires.nodes_in_bounds.1 c.requires.nodes_value
+    (ap (λ (k : ℕ). find_node k (nodes_of a.c.nodes a.nodes.now)) (sym c.id.ensures) ∙ sym c.find_node.ensures ∙ c.in-At.is)
     in
     let f = found in
     (omega (arith, f.inside), f.some_letter)
@@ -99,9 +99,9 @@ read_letter-requires c =
 pub returns : goal.returns
 returns c =
     let found : Reads c.args.nodes.now c.args.text.now c.args.c c.args.u c.in-At.i =
-      let a = c.args in
-      reads_first a.nodes.now a.text.now a.c a.u c.in-At.i c.requires.nodes_in_bounds.1 c.requires.nodes_value
-      (ap (λ (k : ℕ). find_node k (nodes_of a.c.nodes a.nodes.now)) (sym c.id.ensures) ∙ sym c.find_node.ensures ∙ c.in-At.is)
+    let a = c.args in
+    reads_first a.nodes.now a.text.now a.c a.u c.in-At.i c.requires.nodes_in_bounds.1 c.requires.nodes_value
+    (ap (λ (k : ℕ). find_node k (nodes_of a.c.nodes a.nodes.now)) (sym c.id.ensures) ∙ sym c.find_node.ensures ∙ c.in-At.is)
     in
     let r = found in
     let a = c.args in

@@ -76,8 +76,8 @@ returns-then-w-eq0 c =
 pub place-at-requires : goal.place-at-requires
 place-at-requires c =
     let step : Step c.loop-c.above ((of_key (graph_of c.args.nodes.now c.args.text.now c.args.links.now c.args.c) c.args.v c.args.u)) c.next_of_key-w.result =
-      let a = c.args in
-      next-step c.loop-c.above c.next_of_key-w.result (key_sorted (graph_of a.nodes.now a.text.now a.links.now a.c) a.v a.u) c.next_of_key-w.ensures c.if-w-eq0.false
+    let a = c.args in
+    next-step c.loop-c.above c.next_of_key-w.result (key_sorted (graph_of a.nodes.now a.text.now a.links.now a.c) a.v a.u) c.next_of_key-w.ensures c.if-w-eq0.false
     in
     let a = c.args in
     omega (arith, c.direction-direction.ensures, (one ((of_key (graph_of c.args.nodes.now c.args.text.now c.args.links.now c.args.c) c.args.v c.args.u)) a.base a.members.now c.loop-c.members c.loop-c.low c.loop-c.high c.loop-c.above c.next_of_key-w.result c.loop-c.invariant (step)).room)
@@ -85,8 +85,8 @@ place-at-requires c =
 pub offset_bounds-members-at : goal.offset_bounds-members-at
 offset_bounds-members-at c =
     let step : Step c.loop-c.above ((of_key (graph_of c.args.nodes.now c.args.text.now c.args.links.now c.args.c) c.args.v c.args.u)) c.next_of_key-w.result =
-      let a = c.args in
-      next-step c.loop-c.above c.next_of_key-w.result (key_sorted (graph_of a.nodes.now a.text.now a.links.now a.c) a.v a.u) c.next_of_key-w.ensures c.if-w-eq0.false
+    let a = c.args in
+    next-step c.loop-c.above c.next_of_key-w.result (key_sorted (graph_of a.nodes.now a.text.now a.links.now a.c) a.v a.u) c.next_of_key-w.ensures c.if-w-eq0.false
     in
     let a = c.args in
     omega (arith, inside ((of_key (graph_of c.args.nodes.now c.args.text.now c.args.links.now c.args.c) c.args.v c.args.u)) a.base a.members.now c.loop-c.members c.loop-c.low c.loop-c.high c.loop-c.above c.next_of_key-w.result c.loop-c.invariant (step) c.direction-direction.result c.place-at.result c.direction-direction.ensures c.place-at.ensures, c.loop-c.invariant.size, c.requires.u_in_bounds, c.well_formed)
@@ -94,8 +94,8 @@ offset_bounds-members-at c =
 pub bounds-members-at : goal.bounds-members-at
 bounds-members-at c =
     let step : Step c.loop-c.above ((of_key (graph_of c.args.nodes.now c.args.text.now c.args.links.now c.args.c) c.args.v c.args.u)) c.next_of_key-w.result =
-      let a = c.args in
-      next-step c.loop-c.above c.next_of_key-w.result (key_sorted (graph_of a.nodes.now a.text.now a.links.now a.c) a.v a.u) c.next_of_key-w.ensures c.if-w-eq0.false
+    let a = c.args in
+    next-step c.loop-c.above c.next_of_key-w.result (key_sorted (graph_of a.nodes.now a.text.now a.links.now a.c) a.v a.u) c.next_of_key-w.ensures c.if-w-eq0.false
     in
     let a = c.args in
     omega (arith, inside ((of_key (graph_of c.args.nodes.now c.args.text.now c.args.links.now c.args.c) c.args.v c.args.u)) a.base a.members.now c.loop-c.members c.loop-c.low c.loop-c.high c.loop-c.above c.next_of_key-w.result c.loop-c.invariant (step) c.direction-direction.result c.place-at.result c.direction-direction.ensures c.place-at.ensures, c.loop-c.invariant.size, c.requires.u_in_bounds)
@@ -103,8 +103,8 @@ bounds-members-at c =
 pub overflow_sub-low : goal.overflow_sub-low
 overflow_sub-low c =
     let step : Step c.loop-c.above ((of_key (graph_of c.args.nodes.now c.args.text.now c.args.links.now c.args.c) c.args.v c.args.u)) c.next_of_key-w.result =
-      let a = c.args in
-      next-step c.loop-c.above c.next_of_key-w.result (key_sorted (graph_of a.nodes.now a.text.now a.links.now a.c) a.v a.u) c.next_of_key-w.ensures c.if-w-eq0.false
+    let a = c.args in
+    next-step c.loop-c.above c.next_of_key-w.result (key_sorted (graph_of a.nodes.now a.text.now a.links.now a.c) a.v a.u) c.next_of_key-w.ensures c.if-w-eq0.false
     in
     let a = c.args in
     omega (arith, c.direction-direction.ensures, (one ((of_key (graph_of c.args.nodes.now c.args.text.now c.args.links.now c.args.c) c.args.v c.args.u)) a.base a.members.now c.loop-c.members c.loop-c.low c.loop-c.high c.loop-c.above c.next_of_key-w.result c.loop-c.invariant (step)).room)
@@ -112,8 +112,8 @@ overflow_sub-low c =
 pub overflow_add-high : goal.overflow_add-high
 overflow_add-high c =
     let step : Step c.loop-c.above ((of_key (graph_of c.args.nodes.now c.args.text.now c.args.links.now c.args.c) c.args.v c.args.u)) c.next_of_key-w.result =
-      let a = c.args in
-      next-step c.loop-c.above c.next_of_key-w.result (key_sorted (graph_of a.nodes.now a.text.now a.links.now a.c) a.v a.u) c.next_of_key-w.ensures c.if-w-eq0.false
+    let a = c.args in
+    next-step c.loop-c.above c.next_of_key-w.result (key_sorted (graph_of a.nodes.now a.text.now a.links.now a.c) a.v a.u) c.next_of_key-w.ensures c.if-w-eq0.false
     in
     let a = c.args in
     omega (arith, (next ((of_key (graph_of c.args.nodes.now c.args.text.now c.args.links.now c.args.c) c.args.v c.args.u)) a.base a.members.now c.loop-c.members c.loop-c.low c.loop-c.high c.loop-c.above c.next_of_key-w.result c.loop-c.invariant (step) c.direction-direction.result c.place-at.result c.direction-direction.ensures c.place-at.ensures).at_high, c.requires.u_in_bounds, c.well_formed)
@@ -121,16 +121,16 @@ overflow_add-high c =
 pub loop-c-smaller : goal.loop-c-smaller
 loop-c-smaller c =
     let step : Step c.loop-c.above ((of_key (graph_of c.args.nodes.now c.args.text.now c.args.links.now c.args.c) c.args.v c.args.u)) c.next_of_key-w.result =
-      let a = c.args in
-      next-step c.loop-c.above c.next_of_key-w.result (key_sorted (graph_of a.nodes.now a.text.now a.links.now a.c) a.v a.u) c.next_of_key-w.ensures c.if-w-eq0.false
+    let a = c.args in
+    next-step c.loop-c.above c.next_of_key-w.result (key_sorted (graph_of a.nodes.now a.text.now a.links.now a.c) a.v a.u) c.next_of_key-w.ensures c.if-w-eq0.false
     in
     let s = step in omega (arith, ap length s.rest)
 
 pub loop-c-preserved : goal.loop-c-preserved
 loop-c-preserved c =
     let step : Step c.loop-c.above ((of_key (graph_of c.args.nodes.now c.args.text.now c.args.links.now c.args.c) c.args.v c.args.u)) c.next_of_key-w.result =
-      let a = c.args in
-      next-step c.loop-c.above c.next_of_key-w.result (key_sorted (graph_of a.nodes.now a.text.now a.links.now a.c) a.v a.u) c.next_of_key-w.ensures c.if-w-eq0.false
+    let a = c.args in
+    next-step c.loop-c.above c.next_of_key-w.result (key_sorted (graph_of a.nodes.now a.text.now a.links.now a.c) a.v a.u) c.next_of_key-w.ensures c.if-w-eq0.false
     in
     let a = c.args in
     next ((of_key (graph_of c.args.nodes.now c.args.text.now c.args.links.now c.args.c) c.args.v c.args.u)) a.base a.members.now c.loop-c.members c.loop-c.low c.loop-c.high c.loop-c.above c.next_of_key-w.result c.loop-c.invariant (step) c.direction-direction.result c.place-at.result c.direction-direction.ensures c.place-at.ensures

@@ -102,8 +102,8 @@ returns-then-u-eq0 c =
 pub write_group-at-requires : goal.write_group-at-requires
 write_group-at-requires c =
     let step : Step c.loop-c.above (heads_of (graph_of c.args.nodes.now c.args.text.now c.args.links.now c.args.c) c.args.v) c.next_head-u.result =
-      let a = c.args in
-      next-step c.loop-c.above c.next_head-u.result (heads_sorted (graph_of a.nodes.now a.text.now a.links.now a.c) a.v) c.next_head-u.ensures c.if-u-eq0.false
+    let a = c.args in
+    next-step c.loop-c.above c.next_head-u.result (heads_sorted (graph_of a.nodes.now a.text.now a.links.now a.c) a.v) c.next_head-u.ensures c.if-u-eq0.false
     in
     let a = c.args in
     let g : Graph = graph_of a.nodes.now a.text.now a.links.now a.c in
@@ -112,8 +112,8 @@ write_group-at-requires c =
 pub offset_bounds-ends-n : goal.offset_bounds-ends-n
 offset_bounds-ends-n c =
     let step : Step c.loop-c.above (heads_of (graph_of c.args.nodes.now c.args.text.now c.args.links.now c.args.c) c.args.v) c.next_head-u.result =
-      let a = c.args in
-      next-step c.loop-c.above c.next_head-u.result (heads_sorted (graph_of a.nodes.now a.text.now a.links.now a.c) a.v) c.next_head-u.ensures c.if-u-eq0.false
+    let a = c.args in
+    next-step c.loop-c.above c.next_head-u.result (heads_sorted (graph_of a.nodes.now a.text.now a.links.now a.c) a.v) c.next_head-u.ensures c.if-u-eq0.false
     in
     let a = c.args in
     let g : Graph = graph_of a.nodes.now a.text.now a.links.now a.c in
@@ -122,8 +122,8 @@ offset_bounds-ends-n c =
 pub bounds-ends-n : goal.bounds-ends-n
 bounds-ends-n c =
     let step : Step c.loop-c.above (heads_of (graph_of c.args.nodes.now c.args.text.now c.args.links.now c.args.c) c.args.v) c.next_head-u.result =
-      let a = c.args in
-      next-step c.loop-c.above c.next_head-u.result (heads_sorted (graph_of a.nodes.now a.text.now a.links.now a.c) a.v) c.next_head-u.ensures c.if-u-eq0.false
+    let a = c.args in
+    next-step c.loop-c.above c.next_head-u.result (heads_sorted (graph_of a.nodes.now a.text.now a.links.now a.c) a.v) c.next_head-u.ensures c.if-u-eq0.false
     in
     let a = c.args in
     let g : Graph = graph_of a.nodes.now a.text.now a.links.now a.c in
@@ -132,8 +132,8 @@ bounds-ends-n c =
 pub overflow_add-n : goal.overflow_add-n
 overflow_add-n c =
     let step : Step c.loop-c.above (heads_of (graph_of c.args.nodes.now c.args.text.now c.args.links.now c.args.c) c.args.v) c.next_head-u.result =
-      let a = c.args in
-      next-step c.loop-c.above c.next_head-u.result (heads_sorted (graph_of a.nodes.now a.text.now a.links.now a.c) a.v) c.next_head-u.ensures c.if-u-eq0.false
+    let a = c.args in
+    next-step c.loop-c.above c.next_head-u.result (heads_sorted (graph_of a.nodes.now a.text.now a.links.now a.c) a.v) c.next_head-u.ensures c.if-u-eq0.false
     in
     let a = c.args in
     let g : Graph = graph_of a.nodes.now a.text.now a.links.now a.c in
@@ -142,16 +142,16 @@ overflow_add-n c =
 pub loop-c-smaller : goal.loop-c-smaller
 loop-c-smaller c =
     let step : Step c.loop-c.above (heads_of (graph_of c.args.nodes.now c.args.text.now c.args.links.now c.args.c) c.args.v) c.next_head-u.result =
-      let a = c.args in
-      next-step c.loop-c.above c.next_head-u.result (heads_sorted (graph_of a.nodes.now a.text.now a.links.now a.c) a.v) c.next_head-u.ensures c.if-u-eq0.false
+    let a = c.args in
+    next-step c.loop-c.above c.next_head-u.result (heads_sorted (graph_of a.nodes.now a.text.now a.links.now a.c) a.v) c.next_head-u.ensures c.if-u-eq0.false
     in
     let s = step in omega (arith, ap length s.rest)
 
 pub loop-c-preserved : goal.loop-c-preserved
 loop-c-preserved c =
     let step : Step c.loop-c.above (heads_of (graph_of c.args.nodes.now c.args.text.now c.args.links.now c.args.c) c.args.v) c.next_head-u.result =
-      let a = c.args in
-      next-step c.loop-c.above c.next_head-u.result (heads_sorted (graph_of a.nodes.now a.text.now a.links.now a.c) a.v) c.next_head-u.ensures c.if-u-eq0.false
+    let a = c.args in
+    next-step c.loop-c.above c.next_head-u.result (heads_sorted (graph_of a.nodes.now a.text.now a.links.now a.c) a.v) c.next_head-u.ensures c.if-u-eq0.false
     in
     let a = c.args in
     let g : Graph = graph_of a.nodes.now a.text.now a.links.now a.c in

@@ -11,6 +11,6 @@ pub returns-else-b-ge97 : goal.returns-else-b-ge97
 unfolding upper_of
 returns-else-b-ge97 c =
     elim c.else-b-ge97.branch [
-      else-b-ge97-via-then-b-ge97+else-b-le122 w ↦ rw (le-leb _ _ w.if-b-ge97.true, lt-leb _ _ w.if-b-le122.false)
-    | else-b-ge97-via-else-b-ge97 w ↦ rw (lt-leb _ _ w.if-b-ge97.false)
+      | else-b-ge97-via-then-b-ge97+else-b-le122 w ↦ rw (le-leb _ _ w.if-b-ge97.true, lt-leb _ _ w.if-b-le122.false)
+      | else-b-ge97-via-else-b-ge97 w ↦ rw (lt-leb _ _ w.if-b-ge97.false)
     ]

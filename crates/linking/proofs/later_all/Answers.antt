@@ -54,7 +54,7 @@ loop-i-init c =
 pub later_links-requires : goal.later_links-requires
 later_links-requires c =
     let met : Met c.args.p (nodes_of c.args.node_count c.args.nodes.now) c.args.x c.args.fresh c.args.links.now c.args.count (map handle c.args.members.now) c.loop-i.links c.loop-i.n c.loop-i.next c.loop-i.i (handle (get_or c.args.members.now c.loop-i.i 0)) c.is_long-long.result =
-      record { inv = c.loop-i.invariant; front = left_member c.args.members.now c.loop-i.i (omega arith); long_is = c.is_long-long.ensures }
+    record { inv = c.loop-i.invariant; front = left_member c.args.members.now c.loop-i.i (omega arith); long_is = c.is_long-long.ensures }
     in
     let k = met in
     record { count_in_bounds = omega arith; m_bound = ((now k).high, free k); m_value = ((now k).away, k.inv.later.ends) }
@@ -62,7 +62,7 @@ later_links-requires c =
 pub returns-in_default : goal.returns-in_default
 returns-in_default c =
     let met : Met c.args.p (nodes_of c.args.node_count c.args.nodes.now) c.args.x c.args.fresh c.args.links.now c.args.count (map handle c.args.members.now) c.loop-i.links c.loop-i.n c.loop-i.next c.loop-i.i (handle (get_or c.args.members.now c.loop-i.i 0)) c.is_long-long.result =
-      record { inv = c.loop-i.invariant; front = left_member c.args.members.now c.loop-i.i (omega arith); long_is = c.is_long-long.ensures }
+    record { inv = c.loop-i.invariant; front = left_member c.args.members.now c.loop-i.i (omega arith); long_is = c.is_long-long.ensures }
     in
     let k = met in
     then_full k.inv.holds c.later_links.ensures c.in_default.is (grown k)
@@ -70,14 +70,14 @@ returns-in_default c =
 pub fresh_after-next-requires : goal.fresh_after-next-requires
 fresh_after-next-requires c =
     let met : Met c.args.p (nodes_of c.args.node_count c.args.nodes.now) c.args.x c.args.fresh c.args.links.now c.args.count (map handle c.args.members.now) c.loop-i.links c.loop-i.n c.loop-i.next c.loop-i.i (handle (get_or c.args.members.now c.loop-i.i 0)) c.is_long-long.result =
-      record { inv = c.loop-i.invariant; front = left_member c.args.members.now c.loop-i.i (omega arith); long_is = c.is_long-long.ensures }
+    record { inv = c.loop-i.invariant; front = left_member c.args.members.now c.loop-i.i (omega arith); long_is = c.is_long-long.ensures }
     in
     free (met)
 
 pub loop-i-preserved : goal.loop-i-preserved
 loop-i-preserved c =
     let met : Met c.args.p (nodes_of c.args.node_count c.args.nodes.now) c.args.x c.args.fresh c.args.links.now c.args.count (map handle c.args.members.now) c.loop-i.links c.loop-i.n c.loop-i.next c.loop-i.i (handle (get_or c.args.members.now c.loop-i.i 0)) c.is_long-long.result =
-      record { inv = c.loop-i.invariant; front = left_member c.args.members.now c.loop-i.i (omega arith); long_is = c.is_long-long.ensures }
+    record { inv = c.loop-i.invariant; front = left_member c.args.members.now c.loop-i.i (omega arith); long_is = c.is_long-long.ensures }
     in
     turn (met) c.in-Count.more c.fresh_after-next.result (made-count c.in-Count.more c.later_links.ensures c.in-Count.is) c.fresh_after-next.ensures
 

@@ -65,7 +65,7 @@ returns-then-y-eq0 c =
 pub returns-in_default : goal.returns-in_default
 returns-in_default c =
     let met : Met c.args.links.now c.args.count c.args.m c.args.x c.loop-m.links c.loop-m.n c.loop-m.above c.next_unmarked-y.result c.read_as-to.result =
-      record { inv = c.loop-m.invariant; away = c.requires.m_value.0; next_is = c.next_unmarked-y.ensures; some = c.if-y-eq0.false; to_is = c.read_as-to.ensures }
+    record { inv = c.loop-m.invariant; away = c.requires.m_value.0; next_is = c.next_unmarked-y.ensures; some = c.if-y-eq0.false; to_is = c.read_as-to.ensures }
     in
     let k = met in
     then_full k.inv.holds c.add_link.ensures c.in_default.is (grown k)
@@ -73,13 +73,13 @@ returns-in_default c =
 pub loop-m-smaller : goal.loop-m-smaller
 loop-m-smaller c =
     let met : Met c.args.links.now c.args.count c.args.m c.args.x c.loop-m.links c.loop-m.n c.loop-m.above c.next_unmarked-y.result c.read_as-to.result =
-      record { inv = c.loop-m.invariant; away = c.requires.m_value.0; next_is = c.next_unmarked-y.ensures; some = c.if-y-eq0.false; to_is = c.read_as-to.ensures }
+    record { inv = c.loop-m.invariant; away = c.requires.m_value.0; next_is = c.next_unmarked-y.ensures; some = c.if-y-eq0.false; to_is = c.read_as-to.ensures }
     in
     less (met) c.in-Count.more (made-count c.in-Count.more c.add_link.ensures c.in-Count.is)
 
 pub loop-m-preserved : goal.loop-m-preserved
 loop-m-preserved c =
     let met : Met c.args.links.now c.args.count c.args.m c.args.x c.loop-m.links c.loop-m.n c.loop-m.above c.next_unmarked-y.result c.read_as-to.result =
-      record { inv = c.loop-m.invariant; away = c.requires.m_value.0; next_is = c.next_unmarked-y.ensures; some = c.if-y-eq0.false; to_is = c.read_as-to.ensures }
+    record { inv = c.loop-m.invariant; away = c.requires.m_value.0; next_is = c.next_unmarked-y.ensures; some = c.if-y-eq0.false; to_is = c.read_as-to.ensures }
     in
     turn (met) c.in-Count.more (made-count c.in-Count.more c.add_link.ensures c.in-Count.is)

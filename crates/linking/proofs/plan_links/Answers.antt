@@ -65,22 +65,22 @@ bounds-members-0 c = omega (arith, c.requires.plans.some, length-map c.args.memb
 pub alone_links-requires : goal.alone_links-requires
 alone_links-requires c =
     let known : Known c.args.p (nodes_of c.args.node_count c.args.nodes.now) (links_of c.args.count c.args.links.now) c.args.members.now (c.largest_id-fresh.result + 1) c.is_long-long.result =
-      record {
+    record {
       plans = c.requires.plans;
       fresh_is = ap (λ (n : ℕ). n + 1) c.largest_id-fresh.ensures;
       long_is = c.is_long-long.ensures;
-      }
+    }
     in
     record { count_in_bounds = omega arith; m_bound = ((start (known)).high, free (known)) }
 
 pub returns-in_default : goal.returns-in_default
 returns-in_default c =
     let known : Known c.args.p (nodes_of c.args.node_count c.args.nodes.now) (links_of c.args.count c.args.links.now) c.args.members.now (c.largest_id-fresh.result + 1) c.is_long-long.result =
-      record {
+    record {
       plans = c.requires.plans;
       fresh_is = ap (λ (n : ℕ). n + 1) c.largest_id-fresh.ensures;
       long_is = c.is_long-long.ensures;
-      }
+    }
     in
     let a = c.args in
     then_full (starts a.count a.links.now (omega arith)) c.alone_links.ensures c.in_default.is (grown (known))
@@ -88,33 +88,33 @@ returns-in_default c =
 pub prefix_of-x-requires : goal.prefix_of-x-requires
 prefix_of-x-requires c =
     let known : Known c.args.p (nodes_of c.args.node_count c.args.nodes.now) (links_of c.args.count c.args.links.now) c.args.members.now (c.largest_id-fresh.result + 1) c.is_long-long.result =
-      record {
+    record {
       plans = c.requires.plans;
       fresh_is = ap (λ (n : ℕ). n + 1) c.largest_id-fresh.ensures;
       long_is = c.is_long-long.ensures;
-      }
+    }
     in
     free (known)
 
 pub fresh_after-next-requires : goal.fresh_after-next-requires
 fresh_after-next-requires c =
     let known : Known c.args.p (nodes_of c.args.node_count c.args.nodes.now) (links_of c.args.count c.args.links.now) c.args.members.now (c.largest_id-fresh.result + 1) c.is_long-long.result =
-      record {
+    record {
       plans = c.requires.plans;
       fresh_is = ap (λ (n : ℕ). n + 1) c.largest_id-fresh.ensures;
       long_is = c.is_long-long.ensures;
-      }
+    }
     in
     free (known)
 
 pub later_all-requires : goal.later_all-requires
 later_all-requires c =
     let known : Known c.args.p (nodes_of c.args.node_count c.args.nodes.now) (links_of c.args.count c.args.links.now) c.args.members.now (c.largest_id-fresh.result + 1) c.is_long-long.result =
-      record {
+    record {
       plans = c.requires.plans;
       fresh_is = ap (λ (n : ℕ). n + 1) c.largest_id-fresh.ensures;
       long_is = c.is_long-long.ensures;
-      }
+    }
     in
     let h = made-count c.in-Count.n c.alone_links.ensures c.in-Count.is in
     record { node_count_in_bounds = (c.requires.node_count_in_bounds.0, omega (arith, h.room, holds_size h)); later = rw (holds_links h) (later (known) c.prefix_of-x.result c.fresh_after-next.result c.prefix_of-x.ensures c.fresh_after-next.ensures) }
@@ -122,10 +122,10 @@ later_all-requires c =
 pub returns : goal.returns
 returns c =
     let known : Known c.args.p (nodes_of c.args.node_count c.args.nodes.now) (links_of c.args.count c.args.links.now) c.args.members.now (c.largest_id-fresh.result + 1) c.is_long-long.result =
-      record {
+    record {
       plans = c.requires.plans;
       fresh_is = ap (λ (n : ℕ). n + 1) c.largest_id-fresh.ensures;
       long_is = c.is_long-long.ensures;
-      }
+    }
     in
     planned_so (known) c.prefix_of-x.result c.fresh_after-next.result c.prefix_of-x.ensures c.fresh_after-next.ensures c.in-Count.n (made-count c.in-Count.n c.alone_links.ensures c.in-Count.is) c.later_all.ensures

@@ -16,45 +16,45 @@ returns-in_default c =
 pub overflow_mul-result : goal.overflow_mul-result
 overflow_mul-result c =
     let found : RuleFound c.args.used c.args.rules.now (id_of (handle c.args.step)) (step_len (nodes_of c.args.count c.args.nodes.now) (handle c.args.step)) c.in-At.i =
-      let a = c.args in
-      let h = handle a.step in
-      rule_found a.used a.rules.now (id_of h) (step_len (nodes_of a.count a.nodes.now) h) c.in-At.i (looked_up (nodes_of a.count a.nodes.now) (rules_of a.used a.rules.now) h c.id-id.result c.node_len-len.result c.id-id.ensures c.node_len-len.ensures (sym c.in-At.is ∙ c.find_rule.ensures))
+    let a = c.args in
+    let h = handle a.step in
+    rule_found a.used a.rules.now (id_of h) (step_len (nodes_of a.count a.nodes.now) h) c.in-At.i (looked_up (nodes_of a.count a.nodes.now) (rules_of a.used a.rules.now) h c.id-id.result c.node_len-len.result c.id-id.ensures c.node_len-len.ensures (sym c.in-At.is ∙ c.find_rule.ensures))
     in
     omega (arith, (found).within)
 
 pub overflow_add-result : goal.overflow_add-result
 overflow_add-result c =
     let found : RuleFound c.args.used c.args.rules.now (id_of (handle c.args.step)) (step_len (nodes_of c.args.count c.args.nodes.now) (handle c.args.step)) c.in-At.i =
-      let a = c.args in
-      let h = handle a.step in
-      rule_found a.used a.rules.now (id_of h) (step_len (nodes_of a.count a.nodes.now) h) c.in-At.i (looked_up (nodes_of a.count a.nodes.now) (rules_of a.used a.rules.now) h c.id-id.result c.node_len-len.result c.id-id.ensures c.node_len-len.ensures (sym c.in-At.is ∙ c.find_rule.ensures))
+    let a = c.args in
+    let h = handle a.step in
+    rule_found a.used a.rules.now (id_of h) (step_len (nodes_of a.count a.nodes.now) h) c.in-At.i (looked_up (nodes_of a.count a.nodes.now) (rules_of a.used a.rules.now) h c.id-id.result c.node_len-len.result c.id-id.ensures c.node_len-len.ensures (sym c.in-At.is ∙ c.find_rule.ensures))
     in
     omega (arith, (found).within)
 
 pub offset_bounds-rules-i : goal.offset_bounds-rules-i
 offset_bounds-rules-i c =
     let found : RuleFound c.args.used c.args.rules.now (id_of (handle c.args.step)) (step_len (nodes_of c.args.count c.args.nodes.now) (handle c.args.step)) c.in-At.i =
-      let a = c.args in
-      let h = handle a.step in
-      rule_found a.used a.rules.now (id_of h) (step_len (nodes_of a.count a.nodes.now) h) c.in-At.i (looked_up (nodes_of a.count a.nodes.now) (rules_of a.used a.rules.now) h c.id-id.result c.node_len-len.result c.id-id.ensures c.node_len-len.ensures (sym c.in-At.is ∙ c.find_rule.ensures))
+    let a = c.args in
+    let h = handle a.step in
+    rule_found a.used a.rules.now (id_of h) (step_len (nodes_of a.count a.nodes.now) h) c.in-At.i (looked_up (nodes_of a.count a.nodes.now) (rules_of a.used a.rules.now) h c.id-id.result c.node_len-len.result c.id-id.ensures c.node_len-len.ensures (sym c.in-At.is ∙ c.find_rule.ensures))
     in
     omega (arith, (found).within)
 
 pub bounds-rules-i : goal.bounds-rules-i
 bounds-rules-i c =
     let found : RuleFound c.args.used c.args.rules.now (id_of (handle c.args.step)) (step_len (nodes_of c.args.count c.args.nodes.now) (handle c.args.step)) c.in-At.i =
-      let a = c.args in
-      let h = handle a.step in
-      rule_found a.used a.rules.now (id_of h) (step_len (nodes_of a.count a.nodes.now) h) c.in-At.i (looked_up (nodes_of a.count a.nodes.now) (rules_of a.used a.rules.now) h c.id-id.result c.node_len-len.result c.id-id.ensures c.node_len-len.ensures (sym c.in-At.is ∙ c.find_rule.ensures))
+    let a = c.args in
+    let h = handle a.step in
+    rule_found a.used a.rules.now (id_of h) (step_len (nodes_of a.count a.nodes.now) h) c.in-At.i (looked_up (nodes_of a.count a.nodes.now) (rules_of a.used a.rules.now) h c.id-id.result c.node_len-len.result c.id-id.ensures c.node_len-len.ensures (sym c.in-At.is ∙ c.find_rule.ensures))
     in
     omega (arith, (found).within)
 
 pub returns : goal.returns
 returns c =
     let found : RuleFound c.args.used c.args.rules.now (id_of (handle c.args.step)) (step_len (nodes_of c.args.count c.args.nodes.now) (handle c.args.step)) c.in-At.i =
-      let a = c.args in
-      let h = handle a.step in
-      rule_found a.used a.rules.now (id_of h) (step_len (nodes_of a.count a.nodes.now) h) c.in-At.i (looked_up (nodes_of a.count a.nodes.now) (rules_of a.used a.rules.now) h c.id-id.result c.node_len-len.result c.id-id.ensures c.node_len-len.ensures (sym c.in-At.is ∙ c.find_rule.ensures))
+    let a = c.args in
+    let h = handle a.step in
+    rule_found a.used a.rules.now (id_of h) (step_len (nodes_of a.count a.nodes.now) h) c.in-At.i (looked_up (nodes_of a.count a.nodes.now) (rules_of a.used a.rules.now) h c.id-id.result c.node_len-len.result c.id-id.ensures c.node_len-len.ensures (sym c.in-At.is ∙ c.find_rule.ensures))
     in
     let f = found in
     rw (f.is_ruled, f.here)

@@ -54,8 +54,8 @@ loop-i-preserved c =
     let g = bare a.nodes.now a.links.now a.c in (
       omega arith,
       elim c.if-not-shared.branch [
-        then-not-shared+else-live_link w ↦ sym (dead (λ w. live_linked g (edge w a.v)) a.u g.nodes a.c.links a.links.now c.loop-i.i (omega arith) (sym w.live_link.ensures ∙ w.if-live_link.false))
-      | else-not-shared w ↦ sym (pass (λ w. live_linked g (edge w a.v)) a.u g.nodes a.c.links a.links.now c.loop-i.i (omega arith) (sym c.shared.ensures ∙ not-false _ w.if-not-shared.false-raw))
+        | then-not-shared+else-live_link w ↦ sym (dead (λ w. live_linked g (edge w a.v)) a.u g.nodes a.c.links a.links.now c.loop-i.i (omega arith) (sym w.live_link.ensures ∙ w.if-live_link.false))
+        | else-not-shared w ↦ sym (pass (λ w. live_linked g (edge w a.v)) a.u g.nodes a.c.links a.links.now c.loop-i.i (omega arith) (sym c.shared.ensures ∙ not-false _ w.if-not-shared.false-raw))
       ]
           ∙ c.loop-i.invariant.1,
     )

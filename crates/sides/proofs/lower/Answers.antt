@@ -12,8 +12,8 @@ returns-then-best-eq0 c =
     let a = c.args in
     rw (lt-ltb a.above a.n c.if-n-above.false)
     (elim c.then-best-eq0.branch [
-      then-best-eq0-via-then-best-eq0 w ↦ rw (eq-eqb _ _ w.if-best-eq0.true)
-    | then-best-eq0-via-else-best-eq0+then-n-best w ↦ rw (ne_eqb _ _ w.if-best-eq0.false, lt-ltb _ _ w.if-n-best.true)
+      | then-best-eq0-via-then-best-eq0 w ↦ rw (eq-eqb _ _ w.if-best-eq0.true)
+      | then-best-eq0-via-else-best-eq0+then-n-best w ↦ rw (ne_eqb _ _ w.if-best-eq0.false, lt-ltb _ _ w.if-n-best.true)
     ])
 
 pub returns : goal.returns

@@ -22,8 +22,8 @@ loop-i-preserved c =
     let a = c.args in (
       omega arith,
       elim c.else-found-best.branch [
-        else-found-best-via-then-found-best+else-live_link w ↦ turn_dead a.left a.v a.above (nodes_of a.c.nodes a.nodes.now) a.c.links a.links.now c.loop-i.i c.loop-i.best (omega arith) (omega arith) c.loop-i.invariant.1 (sym w.live_link.ensures ∙ w.if-live_link.false)
-      | else-found-best-via-else-found-best w ↦ turn-same a.left a.v a.above (nodes_of a.c.nodes a.nodes.now) a.c.links a.links.now c.loop-i.i c.loop-i.best (omega arith) (omega arith) c.loop-i.invariant.1 (sym c.lead_side-found.ensures ∙ w.if-found-best.false)
+        | else-found-best-via-then-found-best+else-live_link w ↦ turn_dead a.left a.v a.above (nodes_of a.c.nodes a.nodes.now) a.c.links a.links.now c.loop-i.i c.loop-i.best (omega arith) (omega arith) c.loop-i.invariant.1 (sym w.live_link.ensures ∙ w.if-live_link.false)
+        | else-found-best-via-else-found-best w ↦ turn-same a.left a.v a.above (nodes_of a.c.nodes a.nodes.now) a.c.links a.links.now c.loop-i.i c.loop-i.best (omega arith) (omega arith) c.loop-i.invariant.1 (sym c.lead_side-found.ensures ∙ w.if-found-best.false)
       ],
     )
 

@@ -2,7 +2,6 @@ use Prim.Native.Nat.{ℕ, suc, ◌+◌, ◌-◌, ◌<◌}
 use mathlib.Core.Path.{◌≡◌, sym, ap, ◌∙◌}
 use mathlib.Core.List.{List, ◌∷◌}
 use native.Mathlib.Omega.{arith}
-use borrow.Author.Tests.{eqb-true}
 use Rattle.kit.proofs.Bools.{tests}
 use Rattle.handle.specs.declared.Handle.{Handle}
 use Rattle.sides.specs.Sides.{bare, nth_of}
@@ -33,8 +32,8 @@ returns-then-u-eq0 c =
     let u = c.next_side-u.result in
     let xs : List Handle = side_of a.left (bare a.nodes.now a.links.now a.c) a.v in
     elim c.then-u-eq0.branch [
-      then-u-eq0-via-then-u-eq0 w ↦ w.if-u-eq0.true ∙ sym (ap (nth_of (a.k - c.loop-c.n)) (next_end c.loop-c.above xs u c.next_side-u.ensures w.if-u-eq0.true)) ∙ c.loop-c.invariant.1
-    | then-u-eq0-via-else-u-eq0+then-n-k w ↦ sym (here c.loop-c.n a.k w.if-n-k.true (next-step c.loop-c.above u (side_sorted a.left (bare a.nodes.now a.links.now a.c) a.v) c.next_side-u.ensures w.if-u-eq0.false).rest) ∙ c.loop-c.invariant.1
+      | then-u-eq0-via-then-u-eq0 w ↦ w.if-u-eq0.true ∙ sym (ap (nth_of (a.k - c.loop-c.n)) (next_end c.loop-c.above xs u c.next_side-u.ensures w.if-u-eq0.true)) ∙ c.loop-c.invariant.1
+      | then-u-eq0-via-else-u-eq0+then-n-k w ↦ sym (here c.loop-c.n a.k w.if-n-k.true (next-step c.loop-c.above u (side_sorted a.left (bare a.nodes.now a.links.now a.c) a.v) c.next_side-u.ensures w.if-u-eq0.false).rest) ∙ c.loop-c.invariant.1
     ]
 
 pub overflow_add-n : goal.overflow_add-n

@@ -34,14 +34,14 @@ first_is ns h = ap first_of (left-handle ns 0 h)
 pub bounds-members-0 : goal.bounds-members-0
 bounds-members-0 c =
     let some : 1 ≤ length c.args.members.now =
-      omega (arith, c.requires.storable.passed.some, length-map c.args.members.now handle)
+    omega (arith, c.requires.storable.passed.some, length-map c.args.members.now handle)
     in
     let h = some in search rules
 
 pub begin-run-requires : goal.begin-run-requires
 begin-run-requires c =
     let some : 1 ≤ length c.args.members.now =
-      omega (arith, c.requires.storable.passed.some, length-map c.args.members.now handle)
+    omega (arith, c.requires.storable.passed.some, length-map c.args.members.now handle)
     in
     let a = c.args in
     record { count_in_bounds = omega arith; first_bound = first_fits a.p (nodes_of a.c.nodes a.nodes.now) max_id a.members.now (some) c.requires.storable.passed.enough }
@@ -49,14 +49,14 @@ begin-run-requires c =
 pub append_events-used-requires : goal.append_events-used-requires
 append_events-used-requires c =
     let some : 1 ≤ length c.args.members.now =
-      omega (arith, c.requires.storable.passed.some, length-map c.args.members.now handle)
+    omega (arith, c.requires.storable.passed.some, length-map c.args.members.now handle)
     in
     record { node_count_in_bounds = (omega arith, some); members_bound = c.requires.storable.passed.enough; room_for = c.requires.room_for }
 
 pub merge_nodes-count-requires : goal.merge_nodes-count-requires
 merge_nodes-count-requires c =
     let some : 1 ≤ length c.args.members.now =
-      omega (arith, c.requires.storable.passed.some, length-map c.args.members.now handle)
+    omega (arith, c.requires.storable.passed.some, length-map c.args.members.now handle)
     in
     let a = c.args in
     let k = c.requires.storable in
@@ -68,7 +68,7 @@ put_back-requires c = (c.requires.members_in_bounds.1, c.requires.members_in_bou
 pub returns : goal.returns
 returns c =
     let some : 1 ≤ length c.args.members.now =
-      omega (arith, c.requires.storable.passed.some, length-map c.args.members.now handle)
+    omega (arith, c.requires.storable.passed.some, length-map c.args.members.now handle)
     in
     let a = c.args in
     let nodes = nodes_of a.c.nodes a.nodes.now in

@@ -15,7 +15,7 @@ overflow_add-result c = omega arith
 pub overflow_mul-result : goal.overflow_mul-result
 overflow_mul-result c =
     let inside : c.args.used + c.args.more ≤ c.args.limit =
-      omega arith
+    omega arith
     in
     let a = c.args in
     omega (arith, mul-le-mul_left a.stride (inside))
@@ -23,7 +23,7 @@ overflow_mul-result c =
 pub returns : goal.returns
 returns c =
     let inside : c.args.used + c.args.more ≤ c.args.limit =
-      omega arith
+    omega arith
     in
     let a = c.args in
     rw (le-leb (a.used + a.more) a.limit (inside))

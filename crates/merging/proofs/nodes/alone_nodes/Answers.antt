@@ -24,60 +24,60 @@ returns-in_default c =
 pub overflow_mul-len : goal.overflow_mul-len
 overflow_mul-len c =
     let at_slot : find_node (id_of c.args.m) (nodes_of c.args.count c.args.nodes.now) ≡ At c.in-At.i =
-      let a = c.args in
-      sym (c.find_node.ensures ∙ ap (λ (j : ℕ). find_node j (nodes_of a.count a.nodes.now)) c.id-id.ensures) ∙ c.in-At.is
+    let a = c.args in
+    sym (c.find_node.ensures ∙ ap (λ (j : ℕ). find_node j (nodes_of a.count a.nodes.now)) c.id-id.ensures) ∙ c.in-At.is
     in
     let found : NodeFound c.args.count c.args.nodes.now (id_of c.args.m) c.in-At.i =
-      let a = c.args in
-      node-found a.count a.nodes.now (id_of a.m) c.in-At.i (at_slot)
+    let a = c.args in
+    node-found a.count a.nodes.now (id_of a.m) c.in-At.i (at_slot)
     in
     omega (arith, (found).within)
 
 pub overflow_add-len : goal.overflow_add-len
 overflow_add-len c =
     let at_slot : find_node (id_of c.args.m) (nodes_of c.args.count c.args.nodes.now) ≡ At c.in-At.i =
-      let a = c.args in
-      sym (c.find_node.ensures ∙ ap (λ (j : ℕ). find_node j (nodes_of a.count a.nodes.now)) c.id-id.ensures) ∙ c.in-At.is
+    let a = c.args in
+    sym (c.find_node.ensures ∙ ap (λ (j : ℕ). find_node j (nodes_of a.count a.nodes.now)) c.id-id.ensures) ∙ c.in-At.is
     in
     let found : NodeFound c.args.count c.args.nodes.now (id_of c.args.m) c.in-At.i =
-      let a = c.args in
-      node-found a.count a.nodes.now (id_of a.m) c.in-At.i (at_slot)
+    let a = c.args in
+    node-found a.count a.nodes.now (id_of a.m) c.in-At.i (at_slot)
     in
     omega (arith, (found).within)
 
 pub offset_bounds-nodes-i : goal.offset_bounds-nodes-i
 offset_bounds-nodes-i c =
     let at_slot : find_node (id_of c.args.m) (nodes_of c.args.count c.args.nodes.now) ≡ At c.in-At.i =
-      let a = c.args in
-      sym (c.find_node.ensures ∙ ap (λ (j : ℕ). find_node j (nodes_of a.count a.nodes.now)) c.id-id.ensures) ∙ c.in-At.is
+    let a = c.args in
+    sym (c.find_node.ensures ∙ ap (λ (j : ℕ). find_node j (nodes_of a.count a.nodes.now)) c.id-id.ensures) ∙ c.in-At.is
     in
     let found : NodeFound c.args.count c.args.nodes.now (id_of c.args.m) c.in-At.i =
-      let a = c.args in
-      node-found a.count a.nodes.now (id_of a.m) c.in-At.i (at_slot)
+    let a = c.args in
+    node-found a.count a.nodes.now (id_of a.m) c.in-At.i (at_slot)
     in
     omega (arith, (found).within)
 
 pub bounds-nodes-i : goal.bounds-nodes-i
 bounds-nodes-i c =
     let at_slot : find_node (id_of c.args.m) (nodes_of c.args.count c.args.nodes.now) ≡ At c.in-At.i =
-      let a = c.args in
-      sym (c.find_node.ensures ∙ ap (λ (j : ℕ). find_node j (nodes_of a.count a.nodes.now)) c.id-id.ensures) ∙ c.in-At.is
+    let a = c.args in
+    sym (c.find_node.ensures ∙ ap (λ (j : ℕ). find_node j (nodes_of a.count a.nodes.now)) c.id-id.ensures) ∙ c.in-At.is
     in
     let found : NodeFound c.args.count c.args.nodes.now (id_of c.args.m) c.in-At.i =
-      let a = c.args in
-      node-found a.count a.nodes.now (id_of a.m) c.in-At.i (at_slot)
+    let a = c.args in
+    node-found a.count a.nodes.now (id_of a.m) c.in-At.i (at_slot)
     in
     omega (arith, (found).within)
 
 pub returns-then-len-p : goal.returns-then-len-p
 returns-then-len-p c =
     let at_slot : find_node (id_of c.args.m) (nodes_of c.args.count c.args.nodes.now) ≡ At c.in-At.i =
-      let a = c.args in
-      sym (c.find_node.ensures ∙ ap (λ (j : ℕ). find_node j (nodes_of a.count a.nodes.now)) c.id-id.ensures) ∙ c.in-At.is
+    let a = c.args in
+    sym (c.find_node.ensures ∙ ap (λ (j : ℕ). find_node j (nodes_of a.count a.nodes.now)) c.id-id.ensures) ∙ c.in-At.is
     in
     let found : NodeFound c.args.count c.args.nodes.now (id_of c.args.m) c.in-At.i =
-      let a = c.args in
-      node-found a.count a.nodes.now (id_of a.m) c.in-At.i (at_slot)
+    let a = c.args in
+    node-found a.count a.nodes.now (id_of a.m) c.in-At.i (at_slot)
     in
     let a = c.args in
     let both = alone-kept a.p a.count a.nodes.now a.m c.requires.count_in_bounds.0 (omega (arith, ap (λ (r : Node). r.len) (found).here)) in record { value = both.0; nodes_after = both.1 }
@@ -85,44 +85,49 @@ returns-then-len-p c =
 pub split_nodes-requires : goal.split_nodes-requires
 split_nodes-requires c =
     let at_slot : find_node (id_of c.args.m) (nodes_of c.args.count c.args.nodes.now) ≡ At c.in-At.i =
-      let a = c.args in
-      sym (c.find_node.ensures ∙ ap (λ (j : ℕ). find_node j (nodes_of a.count a.nodes.now)) c.id-id.ensures) ∙ c.in-At.is
+    let a = c.args in
+    sym (c.find_node.ensures ∙ ap (λ (j : ℕ). find_node j (nodes_of a.count a.nodes.now)) c.id-id.ensures) ∙ c.in-At.is
     in
     let found : NodeFound c.args.count c.args.nodes.now (id_of c.args.m) c.in-At.i =
-      let a = c.args in
-      node-found a.count a.nodes.now (id_of a.m) c.in-At.i (at_slot)
+    let a = c.args in
+    node-found a.count a.nodes.now (id_of a.m) c.in-At.i (at_slot)
     in
     let long : c.args.p < (node_named (id_of c.args.m) (nodes_of c.args.count c.args.nodes.now)).len =
-      omega (arith, c.if-len-p.false, ap (λ (r : Node). r.len) (found).here)
+    omega (arith, c.if-len-p.false, ap (λ (r : Node). r.len) (found).here)
     in
     let cut_is : c.cut_at-k.result ≡ cut_by c.args.p (nodes_of c.args.count c.args.nodes.now) c.args.m =
-      let a = c.args in
-      c.cut_at-k.ensures ∙ ap (λ (r : Node). cond (is_forward a.m) a.p (r.len - a.p)) (sym (found).here)
+    let a = c.args in
+    c.cut_at-k.ensures ∙ ap (λ (r : Node). cond (is_forward a.m) a.p (r.len - a.p)) (sym (found).here)
     in
     let a = c.args in
     let rs : List Node = nodes_of a.count a.nodes.now in
     let v = ap (λ (j : ℕ). node_named j rs) c.id-id.ensures in
-    let low = cut-within a.p rs a.m (omega (arith, long)) in record { count_in_bounds = omega (arith, c.requires.count_in_bounds.1, alone-more a.p rs a.m (long), length-decode node_layout a.count a.nodes.now); at_lt_count = ((found).within, sym c.find_node.ensures ∙ c.in-At.is, c.requires.nodes_value.0); fresh_value = c.requires.nodes_value.1; k_bound = (
-    omega (arith, cut_is, low, ap (λ (r : Node). r.len) v),
-    omega (arith, cut_is, low, ap (λ (r : Node). r.start) v, c.requires.nodes_bound),
-    ) }
+    let low = cut-within a.p rs a.m (omega (arith, long)) in record {
+      count_in_bounds = omega (arith, c.requires.count_in_bounds.1, alone-more a.p rs a.m (long), length-decode node_layout a.count a.nodes.now);
+      at_lt_count = ((found).within, sym c.find_node.ensures ∙ c.in-At.is, c.requires.nodes_value.0);
+      fresh_value = c.requires.nodes_value.1;
+      k_bound = (
+        omega (arith, cut_is, low, ap (λ (r : Node). r.len) v),
+        omega (arith, cut_is, low, ap (λ (r : Node). r.start) v, c.requires.nodes_bound),
+      );
+    }
 
 pub returns : goal.returns
 returns c =
     let at_slot : find_node (id_of c.args.m) (nodes_of c.args.count c.args.nodes.now) ≡ At c.in-At.i =
-      let a = c.args in
-      sym (c.find_node.ensures ∙ ap (λ (j : ℕ). find_node j (nodes_of a.count a.nodes.now)) c.id-id.ensures) ∙ c.in-At.is
+    let a = c.args in
+    sym (c.find_node.ensures ∙ ap (λ (j : ℕ). find_node j (nodes_of a.count a.nodes.now)) c.id-id.ensures) ∙ c.in-At.is
     in
     let found : NodeFound c.args.count c.args.nodes.now (id_of c.args.m) c.in-At.i =
-      let a = c.args in
-      node-found a.count a.nodes.now (id_of a.m) c.in-At.i (at_slot)
+    let a = c.args in
+    node-found a.count a.nodes.now (id_of a.m) c.in-At.i (at_slot)
     in
     let long : c.args.p < (node_named (id_of c.args.m) (nodes_of c.args.count c.args.nodes.now)).len =
-      omega (arith, c.if-len-p.false, ap (λ (r : Node). r.len) (found).here)
+    omega (arith, c.if-len-p.false, ap (λ (r : Node). r.len) (found).here)
     in
     let cut_is : c.cut_at-k.result ≡ cut_by c.args.p (nodes_of c.args.count c.args.nodes.now) c.args.m =
-      let a = c.args in
-      c.cut_at-k.ensures ∙ ap (λ (r : Node). cond (is_forward a.m) a.p (r.len - a.p)) (sym (found).here)
+    let a = c.args in
+    c.cut_at-k.ensures ∙ ap (λ (r : Node). cond (is_forward a.m) a.p (r.len - a.p)) (sym (found).here)
     in
     let a = c.args in
     let both = alone-cut a.p a.count a.nodes.now a.m (long) c.id-id.ensures (cut_is) c.split_nodes.ensures in record { value = both.0; nodes_after = both.1 }

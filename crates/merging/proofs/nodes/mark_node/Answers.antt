@@ -19,40 +19,40 @@ returns-in_default c =
 pub overflow_mul-nodes : goal.overflow_mul-nodes
 overflow_mul-nodes c =
     let found : NodeFound c.args.count c.args.nodes.now c.args.id c.in-At.i =
-      let a = c.args in
-      node-found a.count a.nodes.now a.id c.in-At.i (sym c.find_node.ensures ∙ c.in-At.is)
+    let a = c.args in
+    node-found a.count a.nodes.now a.id c.in-At.i (sym c.find_node.ensures ∙ c.in-At.is)
     in
     omega (arith, (found).within)
 
 pub overflow_add-nodes : goal.overflow_add-nodes
 overflow_add-nodes c =
     let found : NodeFound c.args.count c.args.nodes.now c.args.id c.in-At.i =
-      let a = c.args in
-      node-found a.count a.nodes.now a.id c.in-At.i (sym c.find_node.ensures ∙ c.in-At.is)
+    let a = c.args in
+    node-found a.count a.nodes.now a.id c.in-At.i (sym c.find_node.ensures ∙ c.in-At.is)
     in
     omega (arith, (found).within)
 
 pub offset_bounds-nodes-i : goal.offset_bounds-nodes-i
 offset_bounds-nodes-i c =
     let found : NodeFound c.args.count c.args.nodes.now c.args.id c.in-At.i =
-      let a = c.args in
-      node-found a.count a.nodes.now a.id c.in-At.i (sym c.find_node.ensures ∙ c.in-At.is)
+    let a = c.args in
+    node-found a.count a.nodes.now a.id c.in-At.i (sym c.find_node.ensures ∙ c.in-At.is)
     in
     omega (arith, (found).within)
 
 pub bounds-nodes-i : goal.bounds-nodes-i
 bounds-nodes-i c =
     let found : NodeFound c.args.count c.args.nodes.now c.args.id c.in-At.i =
-      let a = c.args in
-      node-found a.count a.nodes.now a.id c.in-At.i (sym c.find_node.ensures ∙ c.in-At.is)
+    let a = c.args in
+    node-found a.count a.nodes.now a.id c.in-At.i (sym c.find_node.ensures ∙ c.in-At.is)
     in
     omega (arith, (found).within)
 
 pub returns : goal.returns
 returns c =
     let found : NodeFound c.args.count c.args.nodes.now c.args.id c.in-At.i =
-      let a = c.args in
-      node-found a.count a.nodes.now a.id c.in-At.i (sym c.find_node.ensures ∙ c.in-At.is)
+    let a = c.args in
+    node-found a.count a.nodes.now a.id c.in-At.i (sym c.find_node.ensures ∙ c.in-At.is)
     in
     let a = c.args in
     mark_there a.count a.id c.in-At.i a.nodes.now (sym c.find_node.ensures ∙ c.in-At.is) c.requires.1 (found).within c.requires.0

@@ -95,16 +95,16 @@ module _ (l₀ : List ℕ) (n₀ : ℕ) (ns : List ℕ) (p : ℕ) (h : 0 < lengt
 pub alone_nodes-n-requires : goal.alone_nodes-n-requires
 alone_nodes-n-requires c =
     let ready : Ready c.args.p (length c.args.nodes.now) (nodes_of c.args.node_count c.args.nodes.now) (map handle c.args.members.now) =
-      let a = c.args in
-      let rs : List Node = nodes_of a.node_count a.nodes.now in
-      record {
+    let a = c.args in
+    let rs : List Node = nodes_of a.node_count a.nodes.now in
+    record {
       once = c.requires.in_bounds.1;
       apart = c.requires.members_value.1;
       there = λ m k. all_mem (λ h. stored (id_of h) rs) c.requires.members_value.0 k;
       ends = λ m k. c.requires.by_index (id_of m);
       fits = c.requires.members_bound;
       space = omega (arith, c.requires.members_in_bounds, length-decode node_layout a.node_count a.nodes.now);
-      }
+    }
     in
     let a = c.args in
     let r = ready_first a.nodes.now a.node_count a.members.now a.p c.requires.in_bounds.0 (ready) in
@@ -113,16 +113,16 @@ alone_nodes-n-requires c =
 pub loop-i-init : goal.loop-i-init
 loop-i-init c =
     let ready : Ready c.args.p (length c.args.nodes.now) (nodes_of c.args.node_count c.args.nodes.now) (map handle c.args.members.now) =
-      let a = c.args in
-      let rs : List Node = nodes_of a.node_count a.nodes.now in
-      record {
+    let a = c.args in
+    let rs : List Node = nodes_of a.node_count a.nodes.now in
+    record {
       once = c.requires.in_bounds.1;
       apart = c.requires.members_value.1;
       there = λ m k. all_mem (λ h. stored (id_of h) rs) c.requires.members_value.0 k;
       ends = λ m k. c.requires.by_index (id_of m);
       fits = c.requires.members_bound;
       space = omega (arith, c.requires.members_in_bounds, length-decode node_layout a.node_count a.nodes.now);
-      }
+    }
     in
     let a = c.args in
     start a.nodes.now a.node_count a.members.now a.p c.requires.in_bounds.0 (ready) _ _ c.alone_nodes-n.ensures.value c.alone_nodes-n.ensures.nodes_after (omega arith)
@@ -140,16 +140,16 @@ loop-i-preserved c =
 pub returns : goal.returns
 returns c =
     let ready : Ready c.args.p (length c.args.nodes.now) (nodes_of c.args.node_count c.args.nodes.now) (map handle c.args.members.now) =
-      let a = c.args in
-      let rs : List Node = nodes_of a.node_count a.nodes.now in
-      record {
+    let a = c.args in
+    let rs : List Node = nodes_of a.node_count a.nodes.now in
+    record {
       once = c.requires.in_bounds.1;
       apart = c.requires.members_value.1;
       there = λ m k. all_mem (λ h. stored (id_of h) rs) c.requires.members_value.0 k;
       ends = λ m k. c.requires.by_index (id_of m);
       fits = c.requires.members_bound;
       space = omega (arith, c.requires.members_in_bounds, length-decode node_layout a.node_count a.nodes.now);
-      }
+    }
     in
     let a = c.args in
     let both = done a.nodes.now a.node_count a.members.now a.p c.requires.in_bounds.0 (ready) _ _ c.alone_nodes-n.ensures.value c.alone_nodes-n.ensures.nodes_after (omega arith) c.loop-i.nodes c.loop-i.n c.loop-i.i c.loop-i.invariant (omega arith) in record { value = both.0; nodes_after = both.1 }

@@ -15,8 +15,8 @@ returns-then-direction-eq-FORWARD c =
 pub returns-then-node_len-p : goal.returns-then-node_len-p
 returns-then-node_len-p c =
     let len : c.node_len.result ≡ (node_named (id_of c.args.m) (nodes_of c.args.count c.args.nodes.now)).len =
-      let a = c.args in
-      c.node_len.ensures ∙ ap (λ (j : ℕ). (node_named j (nodes_of a.count a.nodes.now)).len) c.id-id.ensures
+    let a = c.args in
+    c.node_len.ensures ∙ ap (λ (j : ℕ). (node_named j (nodes_of a.count a.nodes.now)).len) c.id-id.ensures
     in
     let a = c.args in
     c.id-id.ensures ∙ sym (ap id_of (prefix_short a.p (nodes_of a.count a.nodes.now) a.m (omega (arith, len)) a.fresh))
@@ -24,8 +24,8 @@ returns-then-node_len-p c =
 pub returns : goal.returns
 returns c =
     let len : c.node_len.result ≡ (node_named (id_of c.args.m) (nodes_of c.args.count c.args.nodes.now)).len =
-      let a = c.args in
-      c.node_len.ensures ∙ ap (λ (j : ℕ). (node_named j (nodes_of a.count a.nodes.now)).len) c.id-id.ensures
+    let a = c.args in
+    c.node_len.ensures ∙ ap (λ (j : ℕ). (node_named j (nodes_of a.count a.nodes.now)).len) c.id-id.ensures
     in
     let a = c.args in
     sym (prefix_fresh a.p (nodes_of a.count a.nodes.now) a.m (omega (arith, len)) a.fresh (λ e. c.if-direction-eq-FORWARD.false (c.direction.ensures ∙ e)))

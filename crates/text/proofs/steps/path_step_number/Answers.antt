@@ -25,7 +25,7 @@ slice_bounds-name_id-end c =
 pub returns-then-name_id-eq0 : goal.returns-then-name_id-eq0
 returns-then-name_id-eq0 c =
     let signed : is_sign (step_sign c.args.step.now) ≡ true =
-      sym c.is_sign.ensures ∙ not-false _ c.if-not-is_sign.false-raw
+    sym c.is_sign.ensures ∙ not-false _ c.if-not-is_sign.false-raw
     in
     let l = c.args.step.now in
     sym (path_unnamed l (signed) (sym c.name_id.ensures ∙ c.if-name_id-eq0.true))
@@ -33,7 +33,7 @@ returns-then-name_id-eq0 c =
 pub returns : goal.returns
 returns c =
     let signed : is_sign (step_sign c.args.step.now) ≡ true =
-      sym c.is_sign.ensures ∙ not-false _ c.if-not-is_sign.false-raw
+    sym c.is_sign.ensures ∙ not-false _ c.if-not-is_sign.false-raw
     in
     let l = c.args.step.now in
     sym (path_good l (signed) (λ e. c.if-name_id-eq0.false (c.name_id.ensures ∙ e)))

@@ -14,7 +14,7 @@ returns-then-step-eq0 c = c.forward.ensures ∙ walk_nothing c.args.step.now c.i
 pub pack-requires : goal.pack-requires
 pack-requires c =
     let said : c.name_id-id.result ≡ name_id (drop 1 c.args.step.now) =
-      c.name_id-id.ensures ∙ ap name_id (after_first c.args.step.now)
+    c.name_id-id.ensures ∙ ap name_id (after_first c.args.step.now)
     in
     let l = c.args.step.now in
     (omega (arith, said, id_range (drop 1 l)), omega (arith, c.arrow_dir.ensures, dir_small (eqb (get_or l 0 0) 60)))
@@ -22,6 +22,6 @@ pack-requires c =
 pub returns : goal.returns
 returns c =
     let said : c.name_id-id.result ≡ name_id (drop 1 c.args.step.now) =
-      c.name_id-id.ensures ∙ ap name_id (after_first c.args.step.now)
+    c.name_id-id.ensures ∙ ap name_id (after_first c.args.step.now)
     in
     c.pack.ensures ∙ ap₂ pack (said) c.arrow_dir.ensures

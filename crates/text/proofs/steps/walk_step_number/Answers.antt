@@ -18,10 +18,10 @@ returns-then-not-is_arrow c =
 pub returns-then-name_id-eq0 : goal.returns-then-name_id-eq0
 returns-then-name_id-eq0 c =
     let signed : is_arrow (get_or c.args.step.now 0 0) ≡ true =
-      sym c.is_arrow.ensures ∙ not-false _ c.if-not-is_arrow.false-raw
+    sym c.is_arrow.ensures ∙ not-false _ c.if-not-is_arrow.false-raw
     in
     let said : c.name_id.result ≡ name_id (drop 1 c.args.step.now) =
-      c.name_id.ensures ∙ ap name_id (after_first c.args.step.now)
+    c.name_id.ensures ∙ ap name_id (after_first c.args.step.now)
     in
     let l = c.args.step.now in
     let two = c.if-step-lt2.false in
@@ -30,10 +30,10 @@ returns-then-name_id-eq0 c =
 pub returns : goal.returns
 returns c =
     let signed : is_arrow (get_or c.args.step.now 0 0) ≡ true =
-      sym c.is_arrow.ensures ∙ not-false _ c.if-not-is_arrow.false-raw
+    sym c.is_arrow.ensures ∙ not-false _ c.if-not-is_arrow.false-raw
     in
     let said : c.name_id.result ≡ name_id (drop 1 c.args.step.now) =
-      c.name_id.ensures ∙ ap name_id (after_first c.args.step.now)
+    c.name_id.ensures ∙ ap name_id (after_first c.args.step.now)
     in
     let l = c.args.step.now in
     let two = c.if-step-lt2.false in
