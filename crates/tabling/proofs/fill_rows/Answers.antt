@@ -51,4 +51,4 @@ loop-c-preserved c =
       next-step c.loop-c.above c.next_segment-n.result (segments_sorted (nodes_of a.c.nodes a.nodes.now)) c.next_segment-n.ensures c.if-n-eq0.false
     in
     let a = c.args in
-    filling_next c.loop-c.invariant (lines_more (table_line (graph_of a.nodes.now [] [] a.c) (list_of a.rules.now a.steps.now a.u)) (step).rest) c.fill_old-place.ensures c.fill_old-place.auto.1.1.1.1.1.1.1.0
+    filling_next c.loop-c.invariant (lines_more (table_line (graph_of a.nodes.now [] [] a.c) (list_of a.rules.now a.steps.now a.u)) (step).rest) c.fill_old-place.ensures c.fill_old-place.auto.out
