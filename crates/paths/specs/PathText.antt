@@ -1,6 +1,6 @@
 -- P and W lines with their walks rewritten: 01 "Reading and writing", output; and what their text is refused for: 01
 -- "Numbers that say no", 1, 2 and 6, in the order of a reading.
-use Rattle.std.specs.Prelude.{ℕ, Bool, cond, not, ◌||◌, List, [], ◌∷◌, ◌++◌, eqb}
+use Rattle.std.specs.Prelude.{ℕ, Bool, cond, not, ◌||◌, List, [], ◌++◌, eqb}
 use Rattle.kit.specs.Loops.{all, keep, lines}
 use Rattle.store.specs.Graph.{Node, Graph}
 use Rattle.events.specs.Events.{Rules}

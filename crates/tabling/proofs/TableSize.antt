@@ -1,15 +1,14 @@
 -- The table's text does not leave 64 bits either.
-use Prim.Native.Nat.{ℕ, ◌+◌, ◌*◌, ◌^◌, ◌≤◌, ◌<◌}
-use mathlib.Core.Path.{◌≡◌, refl, sym, ap, ◌∙◌}
+use Prim.Native.Nat.{ℕ, ◌*◌, ◌^◌, ◌≤◌, ◌<◌}
+use mathlib.Core.Path.{◌≡◌, refl, ap, ◌∙◌}
 use mathlib.Core.Bool.{Bool, true, false, cond}
-use mathlib.Core.List.{List, [], ◌∷◌, ◌++◌, map, Memᴰ}
+use mathlib.Core.List.{List, [], map, Memᴰ}
 use native.Mathlib.Omega.{arith}
 use borrow.Author.Tests.{leb-true, le-leb}
 use lib.Dec.{leb}
 use lib.ListN.{length, take, drop, length-append, length-take, length-map}
-use Rattle.kit.specs.Decimal.{decimal}
 use Rattle.kit.specs.Loops.{all, lines}
-use Rattle.kit.proofs.Bools.{and_true_l, and_true_r, and_both}
+use Rattle.kit.proofs.Bools.{and_true_r, and_both}
 use Rattle.kit.proofs.Decimal.{decimal_short}
 use Rattle.kit.proofs.Laws.{length-decode}
 use Rattle.kit.proofs.Meaning.{all_mem, all_map, all_take, all_drop}
@@ -27,11 +26,10 @@ use Rattle.events.specs.Events.{Step, Rules, rules_of, list_of}
 use Rattle.events.specs.WellFormed.{room_for_rules, good_rule, good_step, good_table, table_formed}
 use Rattle.events.proofs.Says.{table-room}
 use Rattle.rewriting.specs.Rewriting.{ruled, rule_under, transform_node}
-use Rattle.rewriting.specs.Measure.{new_len}
 use Rattle.rewriting.proofs.Tables.{steps-inside}
 use Rattle.rewriting.proofs.Images.{no_rule, length-new}
 use Rattle.writing.specs.Marks.{walk_step, walk_text}
-use Rattle.writing.specs.TableText.{just_itself, table_line, heading, old_segments, table_text}
+use Rattle.writing.specs.TableText.{table_line, heading, old_segments, table_text}
 use Rattle.writing.proofs.Lists.{lines-bound, length-rising}
 use Rattle.tabling.proofs.Rows.{image_by, row-length}
 use Rattle.writing.proofs.Segments.{readable_ids, segment_of_lem, segment_id_lem, live-old}

@@ -1,6 +1,6 @@
 -- Live links in written order: the search in no order, and going along them from one to the next.
 use Prim.Native.Nat.{ℕ, ◌-◌, ◌≤◌, ◌<◌}
-use mathlib.Core.Path.{◌≡◌, refl, sym, ap, ◌∙◌}
+use mathlib.Core.Path.{◌≡◌, refl, sym, ap, subst, ◌∙◌}
 use mathlib.Core.Bool.{Bool, true, false, cond, ◌&&◌, ◌||◌}
 use mathlib.Core.List.{List, [], ◌∷◌, ◌++◌, Memᴰ}
 use native.Mathlib.Omega.{arith}
@@ -134,7 +134,7 @@ link-step e f (written_cons {x = y} {xs = ys} low s) q h = by (after e y) refl q
           this = y;
           found = sym p;
           stands = Memᴰ.head refl;
-          rest = rw (t, p) (ap (λ (l : List Link). y ∷ l) (keep_all (after e) ys (λ u m. before_trans e (ends y) (ends u) t (low u m)) ∙ sym mine));
+          rest = subst (λ (k : Edge). rest_after e (y ∷ ys) ≡ y ∷ rest_after k (y ∷ ys)) (sym p) (rw t (ap (λ (l : List Link). y ∷ l) (keep_all (after e) ys (λ u m. before_trans e (ends y) (ends u) t (low u m)) ∙ sym mine)));
         }
     by false t p go =
         let r = go p h in

@@ -1,13 +1,12 @@
 -- What the limits bound: no text leaves 64 bits, so that it can be measured before it is written.
-use Prim.Native.Nat.{ℕ, ◌+◌, ◌*◌, ◌^◌, ◌≤◌, ◌<◌}
+use Prim.Native.Nat.{ℕ, ◌+◌, ◌^◌, ◌≤◌, ◌<◌}
 use mathlib.Core.Path.{◌≡◌, ◌∙◌}
 use mathlib.Core.Bool.{true, ◌&&◌}
-use mathlib.Core.List.{List, [], ◌∷◌, map, Memᴰ}
+use mathlib.Core.List.{List, [], map, Memᴰ}
 use native.Mathlib.Omega.{arith}
 use borrow.Author.Tests.{eqb-true}
 use lib.Dec.{eqb}
 use lib.ListN.{length, take, drop, length-append, length-take, length-drop, length-map}
-use Rattle.kit.specs.Decimal.{decimal}
 use Rattle.kit.specs.Loops.{keep, lines}
 use Rattle.kit.proofs.Bools.{and_true_l, and_true_r}
 use Rattle.kit.proofs.Decimal.{decimal_short}
@@ -18,7 +17,7 @@ use Rattle.letters.proofs.Sequences.{length-oriented}
 use Rattle.handle.specs.declared.Handle.{Handle}
 use Rattle.handle.specs.Handle.{max_id, id_of, dir_of, pack}
 use Rattle.store.specs.declared.Counts.{Counts}
-use Rattle.store.specs.Graph.{Node, Link, Graph, node_layout, link_layout, nodes_of, links_of, graph_of}
+use Rattle.store.specs.Graph.{Link, Graph, node_layout, link_layout, nodes_of, links_of, graph_of}
 use Rattle.store.specs.Views.{named, node_named, unmarked_node, live_here, live_node, live_link, span, spell}
 use Rattle.formed.specs.WellFormed.{good_node, well_formed}
 use Rattle.formed.proofs.Says.{node_says, formed_room, formed_good}

@@ -1,6 +1,6 @@
 -- What is written stands in order and is complete: each live node and each live link once, and each old node once for the
 -- table. A list that rises strictly has nothing twice.
-use mathlib.Core.Path.{◌≡◌, refl}
+use mathlib.Core.Path.{◌≡◌}
 use mathlib.Core.Bool.{true}
 use mathlib.Core.List.Memᴰ
 use mathlib.Core.List.{List, map, Memᴰ}

@@ -1,14 +1,13 @@
 -- C8's graph after its collapse and its table, as text.
 use mathlib.Core.Path.{◌≡◌, refl}
-use mathlib.Core.List.{List, [], ◌∷◌}
+use mathlib.Core.List.{[], ◌∷◌}
 use Rattle.kit.specs.Decimal.{decimal}
-use Rattle.letters.specs.Letters.{complement_of}
 use Rattle.handle.specs.Handle.{flip, before}
 use Rattle.handle.specs.Edge.{edge, edge_before}
 use Rattle.store.specs.Graph.{Graph, node, link, handle}
 use Rattle.events.specs.Events.{Rules, rule, step}
 use Rattle.text.specs.Bytes.{bytes}
-use Rattle.writing.specs.Marks.{walk_text, path_text}
+use Rattle.writing.specs.Marks.{walk_text}
 use Rattle.writing.specs.GraphText.{graph_text, segment_line, link_line}
 use Rattle.writing.specs.TableText.{table_text, table_line}
 

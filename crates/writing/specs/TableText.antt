@@ -1,5 +1,5 @@
 -- The table as text: 01 "Reading and writing", output; 01 "Checked by hand", C8.
-use Rattle.std.specs.Prelude.{ℕ, Bool, true, false, cond, List, [], ◌∷◌, ◌++◌, map}
+use Rattle.std.specs.Prelude.{ℕ, Bool, false, cond, List, [], ◌∷◌, ◌++◌, map}
 use Rattle.kit.specs.Decimal.{decimal}
 use Rattle.kit.specs.Loops.{lines}
 use Rattle.handle.specs.declared.Handle.{Handle}

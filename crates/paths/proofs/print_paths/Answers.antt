@@ -18,7 +18,7 @@ add_lines-len-requires c = record { nodes_in_bounds = c.requires; fact = search 
 pub returns-then-out-len : goal.returns-then-out-len
 returns-then-out-len c =
     let a = c.args in
-    too_long (paths_number (nodes_of a.c.nodes a.nodes.now) a.text.now) (paths_text (graph_of a.nodes.now [] [] a.c) (list_of a.rules.now a.steps.now a.u) a.text.now) a.out.now (sym c.paths_number-number.ensures ∙ c.if-number-ne0.false) c.add_lines-len.new.out c.add_lines-len.auto.1.1.1.1.1.1.0 c.add_lines-len.ensures.place c.if-out-len.true
+    too_long (paths_number (nodes_of a.c.nodes a.nodes.now) a.text.now) (paths_text (graph_of a.nodes.now [] [] a.c) (list_of a.rules.now a.steps.now a.u) a.text.now) a.out.now (sym c.paths_number-number.ensures ∙ c.if-number-ne0.false) c.add_lines-len.new.out c.add_lines-len.auto.out c.add_lines-len.ensures.place c.if-out-len.true
 
 pub add_lines-requires : goal.add_lines-requires
 add_lines-requires c = record { nodes_in_bounds = c.requires; fact = search rules }
@@ -26,4 +26,4 @@ add_lines-requires c = record { nodes_in_bounds = c.requires; fact = search rule
 pub returns : goal.returns
 returns c =
     let a = c.args in
-    printed (paths_number (nodes_of a.c.nodes a.nodes.now) a.text.now) (paths_text (graph_of a.nodes.now [] [] a.c) (list_of a.rules.now a.steps.now a.u) a.text.now) a.out.now (sym c.paths_number-number.ensures ∙ c.if-number-ne0.false) c.add_lines-len.new.out c.add_lines-len.auto.1.1.1.1.1.1.0 c.add_lines-len.ensures.place c.if-out-len.false c.add_lines.ensures
+    printed (paths_number (nodes_of a.c.nodes a.nodes.now) a.text.now) (paths_text (graph_of a.nodes.now [] [] a.c) (list_of a.rules.now a.steps.now a.u) a.text.now) a.out.now (sym c.paths_number-number.ensures ∙ c.if-number-ne0.false) c.add_lines-len.new.out c.add_lines-len.auto.out c.add_lines-len.ensures.place c.if-out-len.false c.add_lines.ensures

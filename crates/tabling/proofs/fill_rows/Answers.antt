@@ -29,8 +29,8 @@ returns-then-n-eq0 c =
 pub fill_old-place-requires : goal.fill_old-place-requires
 fill_old-place-requires c =
     let step : Step c.loop-c.above (live_segments (nodes_of c.args.c.nodes c.args.nodes.now)) c.next_segment-n.result =
-      let a = c.args in
-      next-step c.loop-c.above c.next_segment-n.result (segments_sorted (nodes_of a.c.nodes a.nodes.now)) c.next_segment-n.ensures c.if-n-eq0.false
+    let a = c.args in
+    next-step c.loop-c.above c.next_segment-n.result (segments_sorted (nodes_of a.c.nodes a.nodes.now)) c.next_segment-n.ensures c.if-n-eq0.false
     in
     let a = c.args in
     let n = c.next_segment-n.result in
@@ -39,16 +39,16 @@ fill_old-place-requires c =
 pub loop-c-smaller : goal.loop-c-smaller
 loop-c-smaller c =
     let step : Step c.loop-c.above (live_segments (nodes_of c.args.c.nodes c.args.nodes.now)) c.next_segment-n.result =
-      let a = c.args in
-      next-step c.loop-c.above c.next_segment-n.result (segments_sorted (nodes_of a.c.nodes a.nodes.now)) c.next_segment-n.ensures c.if-n-eq0.false
+    let a = c.args in
+    next-step c.loop-c.above c.next_segment-n.result (segments_sorted (nodes_of a.c.nodes a.nodes.now)) c.next_segment-n.ensures c.if-n-eq0.false
     in
     omega (arith, ap length (step).rest)
 
 pub loop-c-preserved : goal.loop-c-preserved
 loop-c-preserved c =
     let step : Step c.loop-c.above (live_segments (nodes_of c.args.c.nodes c.args.nodes.now)) c.next_segment-n.result =
-      let a = c.args in
-      next-step c.loop-c.above c.next_segment-n.result (segments_sorted (nodes_of a.c.nodes a.nodes.now)) c.next_segment-n.ensures c.if-n-eq0.false
+    let a = c.args in
+    next-step c.loop-c.above c.next_segment-n.result (segments_sorted (nodes_of a.c.nodes a.nodes.now)) c.next_segment-n.ensures c.if-n-eq0.false
     in
     let a = c.args in
-    filling_next c.loop-c.invariant (lines_more (table_line (graph_of a.nodes.now [] [] a.c) (list_of a.rules.now a.steps.now a.u)) (step).rest) c.fill_old-place.ensures c.fill_old-place.auto.1.1.1.1.1.1.1.0
+    filling_next c.loop-c.invariant (lines_more (table_line (graph_of a.nodes.now [] [] a.c) (list_of a.rules.now a.steps.now a.u)) (step).rest) c.fill_old-place.ensures c.fill_old-place.auto.out

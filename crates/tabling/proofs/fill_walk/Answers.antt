@@ -23,7 +23,7 @@ fill_step-place-requires c =
 pub loop-j-preserved : goal.loop-j-preserved
 loop-j-preserved c =
     let a = c.args in
-    filling_next c.loop-j.invariant (walk_more a.total a.steps.now a.first a.count c.requires.total_in_bounds.1 c.loop-j.j c.loop-j-test.true) c.fill_step-place.ensures c.fill_step-place.auto.0
+    filling_next c.loop-j.invariant (walk_more a.total a.steps.now a.first a.count c.requires.total_in_bounds.1 c.loop-j.j c.loop-j-test.true) c.fill_step-place.ensures c.fill_step-place.auto.out
 
 pub shape_of-out : goal.shape_of-out
 shape_of-out c = c.loop-j.invariant.same

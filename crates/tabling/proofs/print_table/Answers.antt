@@ -8,9 +8,9 @@ use Rattle.tabling.proofs.print_table.Goals as goal
 pub returns-then-out-len : goal.returns-then-out-len
 returns-then-out-len c =
     let a = c.args in
-    too_short (table_text (graph_of a.nodes.now [] [] a.c) (list_of a.rules.now a.steps.now a.u)) a.out.now c.fill_table-len.new.out c.fill_table-len.auto.1.1.1.1.1.0 c.fill_table-len.result c.fill_table-len.ensures.place c.if-out-len.true
+    too_short (table_text (graph_of a.nodes.now [] [] a.c) (list_of a.rules.now a.steps.now a.u)) a.out.now c.fill_table-len.new.out c.fill_table-len.auto.out c.fill_table-len.result c.fill_table-len.ensures.place c.if-out-len.true
 
 pub returns : goal.returns
 returns c =
     let a = c.args in
-    printed (table_text (graph_of a.nodes.now [] [] a.c) (list_of a.rules.now a.steps.now a.u)) a.out.now c.fill_table-len.new.out c.fill_table-len.auto.1.1.1.1.1.0 c.fill_table-len.result c.fill_table-len.ensures.place c.if-out-len.false c.fill_table.ensures
+    printed (table_text (graph_of a.nodes.now [] [] a.c) (list_of a.rules.now a.steps.now a.u)) a.out.now c.fill_table-len.new.out c.fill_table-len.auto.out c.fill_table-len.result c.fill_table-len.ensures.place c.if-out-len.false c.fill_table.ensures

@@ -36,7 +36,7 @@ returns-then-stop-pen c =
 pub overflow_add-from : goal.overflow_add-from
 overflow_add-from c =
     let short : length c.args.path.now < 2 ^ 64 =
-      omega arith
+    omega arith
     in
     omega (arith, c.piece_end-end.ensures.high, short)
 

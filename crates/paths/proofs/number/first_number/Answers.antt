@@ -23,15 +23,15 @@ returns-then-number-ne0 c =
 pub returns-then-end-text : goal.returns-then-end-text
 returns-then-end-text c =
     let passed : first_number own (after 10 c.args.text.now c.next_line-end.result) ≡ first_number line_number (keep is_path_line (lines_of c.args.text.now)) =
-      let line = c.next_line-end.ensures in
-      first-passed own line.cut c.own_number-number.ensures c.loop-from.invariant.1 c.if-number-ne0.false
+    let line = c.next_line-end.ensures in
+    first-passed own line.cut c.own_number-number.ensures c.loop-from.invariant.1 c.if-number-ne0.false
     in
     rw (eq-eqb _ _ c.if-end-text.true) at (passed)
 
 pub loop-from-preserved : goal.loop-from-preserved
 loop-from-preserved c =
     let passed : first_number own (after 10 c.args.text.now c.next_line-end.result) ≡ first_number line_number (keep is_path_line (lines_of c.args.text.now)) =
-      let line = c.next_line-end.ensures in
-      first-passed own line.cut c.own_number-number.ensures c.loop-from.invariant.1 c.if-number-ne0.false
+    let line = c.next_line-end.ensures in
+    first-passed own line.cut c.own_number-number.ensures c.loop-from.invariant.1 c.if-number-ne0.false
     in
     (search rules, rw (ne_eqb _ _ c.if-end-text.false) at (passed))

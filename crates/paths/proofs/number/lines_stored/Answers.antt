@@ -25,17 +25,17 @@ returns-then-not-own_stored c =
 pub returns-then-end-text : goal.returns-then-end-text
 returns-then-end-text c =
     let passed : let nodes = nodes_of c.args.count c.args.nodes.now in all (own nodes) (after 10 c.args.text.now c.next_line-end.result) ≡ all (said nodes) (keep is_path_line (lines_of c.args.text.now)) =
-      let a = c.args in
-      let line = c.next_line-end.ensures in
-      sym (all_pass (own (nodes_of a.count a.nodes.now)) line.cut (sym c.own_stored.ensures ∙ not-false _ c.if-not-own_stored.false-raw)) ∙ c.loop-count.invariant.1
+    let a = c.args in
+    let line = c.next_line-end.ensures in
+    sym (all_pass (own (nodes_of a.count a.nodes.now)) line.cut (sym c.own_stored.ensures ∙ not-false _ c.if-not-own_stored.false-raw)) ∙ c.loop-count.invariant.1
     in
     rw (eq-eqb _ _ c.if-end-text.true) at (passed)
 
 pub loop-count-preserved : goal.loop-count-preserved
 loop-count-preserved c =
     let passed : let nodes = nodes_of c.args.count c.args.nodes.now in all (own nodes) (after 10 c.args.text.now c.next_line-end.result) ≡ all (said nodes) (keep is_path_line (lines_of c.args.text.now)) =
-      let a = c.args in
-      let line = c.next_line-end.ensures in
-      sym (all_pass (own (nodes_of a.count a.nodes.now)) line.cut (sym c.own_stored.ensures ∙ not-false _ c.if-not-own_stored.false-raw)) ∙ c.loop-count.invariant.1
+    let a = c.args in
+    let line = c.next_line-end.ensures in
+    sym (all_pass (own (nodes_of a.count a.nodes.now)) line.cut (sym c.own_stored.ensures ∙ not-false _ c.if-not-own_stored.false-raw)) ∙ c.loop-count.invariant.1
     in
     (search rules, rw (ne_eqb _ _ c.if-end-text.false) at (passed))

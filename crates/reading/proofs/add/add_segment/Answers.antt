@@ -10,9 +10,12 @@ append_segment-requires c =
     record { nodes_in_bounds = c.requires; nodes_value = node_nowhere a.id (nodes_of a.c.nodes a.nodes.now) (sym c.find_node.ensures ∙ c.in_default.is) }
 
 pub returns-in_default : goal.returns-in_default
-returns-in_default c = let both = c.append_segment.ensures in record { nodes_in_bounds = both.0; on_segments = both.1 }
+returns-in_default c = record { nodes_in_bounds = c.append_segment.ensures.nodes_in_bounds_2; on_segments = c.append_segment.ensures.on_segments }
 
 pub returns : goal.returns
 returns c =
-    let a = c.args in record { nodes_in_bounds = c.requires; on_segments = λ links l g h.
-          segment_again h a.id a.s.now (node-found a.c.nodes a.nodes.now a.id c.in-At.field-0 (sym c.find_node.ensures ∙ c.in-At.is)).is_stored }
+    let a = c.args in record {
+      nodes_in_bounds = c.requires;
+      on_segments = λ links l g h.
+          segment_again h a.id a.s.now (node-found a.c.nodes a.nodes.now a.id c.in-At.field-0 (sym c.find_node.ensures ∙ c.in-At.is)).is_stored;
+    }

@@ -16,24 +16,27 @@ returns-then-not-link_fits c = let a = c.args in record { nodes_value = (refl, c
 pub push_link-requires : goal.push_link-requires
 push_link-requires c =
     let fits : 3 * (c.args.c.links + 1) ≤ length c.args.links.now =
-      let a = c.args in
-      (room_says [] [] a.links.now (counts 0 0 (a.c.links + 1)) (sym c.link_fits.ensures ∙ not-false _ c.if-not-link_fits.false-raw)).link_room
+    let a = c.args in
+    (room_says [] [] a.links.now (counts 0 0 (a.c.links + 1)) (sym c.link_fits.ensures ∙ not-false _ c.if-not-link_fits.false-raw)).link_room
     in
     fits
 
 pub overflow_add-counts : goal.overflow_add-counts
 overflow_add-counts c =
     let fits : 3 * (c.args.c.links + 1) ≤ length c.args.links.now =
-      let a = c.args in
-      (room_says [] [] a.links.now (counts 0 0 (a.c.links + 1)) (sym c.link_fits.ensures ∙ not-false _ c.if-not-link_fits.false-raw)).link_room
+    let a = c.args in
+    (room_says [] [] a.links.now (counts 0 0 (a.c.links + 1)) (sym c.link_fits.ensures ∙ not-false _ c.if-not-link_fits.false-raw)).link_room
     in
     omega (arith, fits)
 
 pub returns : goal.returns
 returns c =
     let fits : 3 * (c.args.c.links + 1) ≤ length c.args.links.now =
-      let a = c.args in
-      (room_says [] [] a.links.now (counts 0 0 (a.c.links + 1)) (sym c.link_fits.ensures ∙ not-false _ c.if-not-link_fits.false-raw)).link_room
+    let a = c.args in
+    (room_says [] [] a.links.now (counts 0 0 (a.c.links + 1)) (sym c.link_fits.ensures ∙ not-false _ c.if-not-link_fits.false-raw)).link_room
     in
-    let a = c.args in record { nodes_value = (refl, omega (arith, fits)); by_index = λ nodes letters l g h.
-    link-stored h (edge a.u a.v) c.requires.links_value c.link_fits.ensures (not-false _ c.if-not-link_fits.false-raw) c.written-w.ensures c.push_link.ensures }
+    let a = c.args in record {
+      nodes_value = (refl, omega (arith, fits));
+      by_index = λ nodes letters l g h.
+          link-stored h (edge a.u a.v) c.requires.links_value c.link_fits.ensures (not-false _ c.if-not-link_fits.false-raw) c.written-w.ensures c.push_link.ensures;
+    }

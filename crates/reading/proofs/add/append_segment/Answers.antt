@@ -15,24 +15,24 @@ returns-then-not-segment_fits c = let a = c.args in record { nodes_in_bounds_2 =
 pub push_node-requires : goal.push_node-requires
 push_node-requires c =
     let fits : Room c.args.nodes.now c.args.letters.now [] (counts (c.args.c.nodes + 1) (c.args.c.letters + length c.args.s.now) 0) =
-      let a = c.args in
-      room_says a.nodes.now a.letters.now [] (counts (a.c.nodes + 1) (a.c.letters + length a.s.now) 0) (sym c.segment_fits.ensures ∙ not-false _ c.if-not-segment_fits.false-raw)
+    let a = c.args in
+    room_says a.nodes.now a.letters.now [] (counts (a.c.nodes + 1) (a.c.letters + length a.s.now) 0) (sym c.segment_fits.ensures ∙ not-false _ c.if-not-segment_fits.false-raw)
     in
     (fits).node_room
 
 pub put_bytes-end-requires : goal.put_bytes-end-requires
 put_bytes-end-requires c =
     let fits : Room c.args.nodes.now c.args.letters.now [] (counts (c.args.c.nodes + 1) (c.args.c.letters + length c.args.s.now) 0) =
-      let a = c.args in
-      room_says a.nodes.now a.letters.now [] (counts (a.c.nodes + 1) (a.c.letters + length a.s.now) 0) (sym c.segment_fits.ensures ∙ not-false _ c.if-not-segment_fits.false-raw)
+    let a = c.args in
+    room_says a.nodes.now a.letters.now [] (counts (a.c.nodes + 1) (a.c.letters + length a.s.now) 0) (sym c.segment_fits.ensures ∙ not-false _ c.if-not-segment_fits.false-raw)
     in
     (fits).letter_room
 
 pub overflow_add-counts : goal.overflow_add-counts
 overflow_add-counts c =
     let fits : Room c.args.nodes.now c.args.letters.now [] (counts (c.args.c.nodes + 1) (c.args.c.letters + length c.args.s.now) 0) =
-      let a = c.args in
-      room_says a.nodes.now a.letters.now [] (counts (a.c.nodes + 1) (a.c.letters + length a.s.now) 0) (sym c.segment_fits.ensures ∙ not-false _ c.if-not-segment_fits.false-raw)
+    let a = c.args in
+    room_says a.nodes.now a.letters.now [] (counts (a.c.nodes + 1) (a.c.letters + length a.s.now) 0) (sym c.segment_fits.ensures ∙ not-false _ c.if-not-segment_fits.false-raw)
     in
     let few : c.args.c.nodes + 1 ≤ 65536 = (fits).few_nodes in
     omega arith
@@ -40,8 +40,11 @@ overflow_add-counts c =
 pub returns : goal.returns
 returns c =
     let fits : Room c.args.nodes.now c.args.letters.now [] (counts (c.args.c.nodes + 1) (c.args.c.letters + length c.args.s.now) 0) =
-      let a = c.args in
-      room_says a.nodes.now a.letters.now [] (counts (a.c.nodes + 1) (a.c.letters + length a.s.now) 0) (sym c.segment_fits.ensures ∙ not-false _ c.if-not-segment_fits.false-raw)
+    let a = c.args in
+    room_says a.nodes.now a.letters.now [] (counts (a.c.nodes + 1) (a.c.letters + length a.s.now) 0) (sym c.segment_fits.ensures ∙ not-false _ c.if-not-segment_fits.false-raw)
     in
-    let a = c.args in record { nodes_in_bounds_2 = (omega (arith, (fits).node_room), omega (arith, (fits).letter_room, c.put_bytes-end.ensures.place)); on_segments = λ links l g h.
-    segment_stored h a.id a.s.now c.requires.nodes_value c.segment_fits.ensures (not-false _ c.if-not-segment_fits.false-raw) c.push_node.ensures c.put_bytes-end.ensures.bytes c.put_bytes-end.ensures.place }
+    let a = c.args in record {
+      nodes_in_bounds_2 = (omega (arith, (fits).node_room), omega (arith, (fits).letter_room, c.put_bytes-end.ensures.place));
+      on_segments = λ links l g h.
+          segment_stored h a.id a.s.now c.requires.nodes_value c.segment_fits.ensures (not-false _ c.if-not-segment_fits.false-raw) c.push_node.ensures c.put_bytes-end.ensures.bytes c.put_bytes-end.ensures.place;
+    }

@@ -21,17 +21,17 @@ returns-then-not-is_stored c =
 pub returns-then-end-path : goal.returns-then-end-path
 returns-then-end-path c =
     let passed : all_stored (nodes_of c.args.count c.args.nodes.now) (map path_handle (after 44 c.args.path.now c.piece_end-end.result)) ≡ all_stored (nodes_of c.args.count c.args.nodes.now) (path_handles c.args.path.now) =
-      let a = c.args in
-      step_there (nodes_of a.count a.nodes.now) path_handle c.piece_end-end.ensures.cut c.loop-count.invariant.1
-      c.path_handle.ensures c.is_stored.ensures (not-false _ c.if-not-is_stored.false-raw)
+    let a = c.args in
+    step_there (nodes_of a.count a.nodes.now) path_handle c.piece_end-end.ensures.cut c.loop-count.invariant.1
+    c.path_handle.ensures c.is_stored.ensures (not-false _ c.if-not-is_stored.false-raw)
     in
     rw (eq-eqb _ _ c.if-end-path.true) at (passed)
 
 pub loop-count-preserved : goal.loop-count-preserved
 loop-count-preserved c =
     let passed : all_stored (nodes_of c.args.count c.args.nodes.now) (map path_handle (after 44 c.args.path.now c.piece_end-end.result)) ≡ all_stored (nodes_of c.args.count c.args.nodes.now) (path_handles c.args.path.now) =
-      let a = c.args in
-      step_there (nodes_of a.count a.nodes.now) path_handle c.piece_end-end.ensures.cut c.loop-count.invariant.1
-      c.path_handle.ensures c.is_stored.ensures (not-false _ c.if-not-is_stored.false-raw)
+    let a = c.args in
+    step_there (nodes_of a.count a.nodes.now) path_handle c.piece_end-end.ensures.cut c.loop-count.invariant.1
+    c.path_handle.ensures c.is_stored.ensures (not-false _ c.if-not-is_stored.false-raw)
     in
     (search rules, rw (ne_eqb _ _ c.if-end-path.false) at (passed))

@@ -1,5 +1,4 @@
 use mathlib.Core.Path.{◌≡◌, sym, ap, ◌∙◌}
-use mathlib.Core.Logic.{⊎_elim}
 use native.Mathlib.Omega.{arith}
 use borrow.Author.Tests.{not-false}
 use Rattle.kit.proofs.Laws.{left_none}
@@ -7,6 +6,7 @@ use Rattle.handle.proofs.Edges.{same_ends_lem}
 use Rattle.store.specs.Graph.{link_layout, nodes_of}
 use Rattle.writing.proofs.Links.{first_from, link_live, link_dead, link-same}
 use Rattle.writing.proofs.along.next_link.Goals as goal
+use Rattle.writing.proofs.along.next_link.Goals.{else-not-same-via-then-not-same+else-live_link, else-not-same-via-else-not-same}
 
 pub loop-i-init : goal.loop-i-init
 loop-i-init c =
@@ -22,10 +22,10 @@ pub loop-i-preserved : goal.loop-i-preserved
 loop-i-preserved c =
     let a = c.args in (
       omega arith,
-      ⊎_elim
-          (λ x. link_dead a.last (nodes_of a.c.nodes a.nodes.now) a.c.links a.links.now c.requires.nodes_value.0 c.requires.nodes_value.1 c.loop-i.i c.loop-i.best (omega arith) (omega arith) c.loop-i.invariant.1 (sym x.2.ensures ∙ x.3.left))
-          (λ x. link-same a.last (nodes_of a.c.nodes a.nodes.now) a.c.links a.links.now c.requires.nodes_value.0 c.requires.nodes_value.1 c.loop-i.i c.loop-i.best (omega arith) (omega arith) c.loop-i.invariant.1 (sym c.sooner-found.ensures ∙ same_ends_lem c.sooner-found.result c.loop-i.best (sym c.same.ensures ∙ not-false c.same.result x.left)))
-          c.else-not-same.branch,
+      elim c.else-not-same.branch [
+        | else-not-same-via-then-not-same+else-live_link x ↦ link_dead a.last (nodes_of a.c.nodes a.nodes.now) a.c.links a.links.now c.requires.nodes_value.0 c.requires.nodes_value.1 c.loop-i.i c.loop-i.best (omega arith) (omega arith) c.loop-i.invariant.1 (sym x.live_link.ensures ∙ x.if-live_link.false)
+        | else-not-same-via-else-not-same x ↦ link-same a.last (nodes_of a.c.nodes a.nodes.now) a.c.links a.links.now c.requires.nodes_value.0 c.requires.nodes_value.1 c.loop-i.i c.loop-i.best (omega arith) (omega arith) c.loop-i.invariant.1 (sym c.sooner-found.ensures ∙ same_ends_lem c.sooner-found.result c.loop-i.best (sym c.same.ensures ∙ not-false c.same.result x.if-not-same.false-raw))
+      ],
     )
 
 pub returns : goal.returns

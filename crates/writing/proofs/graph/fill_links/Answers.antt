@@ -26,8 +26,8 @@ returns-then-from-eq0 c =
 pub fill_link-place-requires : goal.fill_link-place-requires
 fill_link-place-requires c =
     let step : LinkStep c.loop-c.last (live_links (bare c.args.nodes.now c.args.links.now c.args.c)) c.next_link-e.result =
-      let a = c.args in
-      link-step c.loop-c.last c.next_link-e.result (live_written (nodes_of a.c.nodes a.nodes.now) (links_of a.c.links a.links.now) c.requires.nodes_value.1) c.next_link-e.ensures c.if-from-eq0.false
+    let a = c.args in
+    link-step c.loop-c.last c.next_link-e.result (live_written (nodes_of a.c.nodes a.nodes.now) (links_of a.c.links a.links.now) c.requires.nodes_value.1) c.next_link-e.ensures c.if-from-eq0.false
     in
     let a = c.args in
     filling_fits (link_line (link c.next_link-e.result 0)) (lines link_line (rest_after c.next_link-e.result (live_links (bare a.nodes.now a.links.now a.c)))) c.loop-c.invariant (link_lines_lem (step)) c.requires.c_bound
@@ -35,15 +35,15 @@ fill_link-place-requires c =
 pub loop-c-smaller : goal.loop-c-smaller
 loop-c-smaller c =
     let step : LinkStep c.loop-c.last (live_links (bare c.args.nodes.now c.args.links.now c.args.c)) c.next_link-e.result =
-      let a = c.args in
-      link-step c.loop-c.last c.next_link-e.result (live_written (nodes_of a.c.nodes a.nodes.now) (links_of a.c.links a.links.now) c.requires.nodes_value.1) c.next_link-e.ensures c.if-from-eq0.false
+    let a = c.args in
+    link-step c.loop-c.last c.next_link-e.result (live_written (nodes_of a.c.nodes a.nodes.now) (links_of a.c.links a.links.now) c.requires.nodes_value.1) c.next_link-e.ensures c.if-from-eq0.false
     in
     omega (arith, ap length (step).rest)
 
 pub loop-c-preserved : goal.loop-c-preserved
 loop-c-preserved c =
     let step : LinkStep c.loop-c.last (live_links (bare c.args.nodes.now c.args.links.now c.args.c)) c.next_link-e.result =
-      let a = c.args in
-      link-step c.loop-c.last c.next_link-e.result (live_written (nodes_of a.c.nodes a.nodes.now) (links_of a.c.links a.links.now) c.requires.nodes_value.1) c.next_link-e.ensures c.if-from-eq0.false
+    let a = c.args in
+    link-step c.loop-c.last c.next_link-e.result (live_written (nodes_of a.c.nodes a.nodes.now) (links_of a.c.links a.links.now) c.requires.nodes_value.1) c.next_link-e.ensures c.if-from-eq0.false
     in
-    filling_next c.loop-c.invariant (link_lines_lem (step)) c.fill_link-place.ensures c.fill_link-place.auto.1.1.0
+    filling_next c.loop-c.invariant (link_lines_lem (step)) c.fill_link-place.ensures c.fill_link-place.auto.out

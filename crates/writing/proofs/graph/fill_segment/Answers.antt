@@ -10,6 +10,11 @@ overflow_add-end c =
     let a = c.args in
     omega (arith, inside a.nodes.now a.text.now a.c c.requires.readable.0 a.h c.look_up-r.result c.look_up-r.ensures)
 
+pub slice_bounds-fill_node-end : goal.slice_bounds-fill_node-end
+slice_bounds-fill_node-end c =
+    let a = c.args in
+    inside a.nodes.now a.text.now a.c c.requires.readable.0 a.h c.look_up-r.result c.look_up-r.ensures
+
 pub fill_node-requires : goal.fill_node-requires
 fill_node-requires c =
     let a = c.args in

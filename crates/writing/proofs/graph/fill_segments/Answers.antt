@@ -29,8 +29,8 @@ returns-then-n-eq0 c =
 pub fill_segment-place-requires : goal.fill_segment-place-requires
 fill_segment-place-requires c =
     let step : Step c.loop-c.above (live_segments (nodes_of c.args.c.nodes c.args.nodes.now)) c.next_segment-n.result =
-      let a = c.args in
-      next-step c.loop-c.above c.next_segment-n.result (segments_sorted (nodes_of a.c.nodes a.nodes.now)) c.next_segment-n.ensures c.if-n-eq0.false
+    let a = c.args in
+    next-step c.loop-c.above c.next_segment-n.result (segments_sorted (nodes_of a.c.nodes a.nodes.now)) c.next_segment-n.ensures c.if-n-eq0.false
     in
     let a = c.args in
     let n = c.next_segment-n.result in
@@ -39,16 +39,16 @@ fill_segment-place-requires c =
 pub loop-c-smaller : goal.loop-c-smaller
 loop-c-smaller c =
     let step : Step c.loop-c.above (live_segments (nodes_of c.args.c.nodes c.args.nodes.now)) c.next_segment-n.result =
-      let a = c.args in
-      next-step c.loop-c.above c.next_segment-n.result (segments_sorted (nodes_of a.c.nodes a.nodes.now)) c.next_segment-n.ensures c.if-n-eq0.false
+    let a = c.args in
+    next-step c.loop-c.above c.next_segment-n.result (segments_sorted (nodes_of a.c.nodes a.nodes.now)) c.next_segment-n.ensures c.if-n-eq0.false
     in
     omega (arith, ap length (step).rest)
 
 pub loop-c-preserved : goal.loop-c-preserved
 loop-c-preserved c =
     let step : Step c.loop-c.above (live_segments (nodes_of c.args.c.nodes c.args.nodes.now)) c.next_segment-n.result =
-      let a = c.args in
-      next-step c.loop-c.above c.next_segment-n.result (segments_sorted (nodes_of a.c.nodes a.nodes.now)) c.next_segment-n.ensures c.if-n-eq0.false
+    let a = c.args in
+    next-step c.loop-c.above c.next_segment-n.result (segments_sorted (nodes_of a.c.nodes a.nodes.now)) c.next_segment-n.ensures c.if-n-eq0.false
     in
     let a = c.args in
-    filling_next c.loop-c.invariant (lines_more (segment_line (graph_of a.nodes.now a.text.now [] a.c)) (step).rest) c.fill_segment-place.ensures c.fill_segment-place.auto.1.1.1.1.1.0
+    filling_next c.loop-c.invariant (lines_more (segment_line (graph_of a.nodes.now a.text.now [] a.c)) (step).rest) c.fill_segment-place.ensures c.fill_segment-place.auto.out

@@ -6,9 +6,9 @@ use Rattle.writing.proofs.graph.print_graph.Goals as goal
 pub returns-then-out-len : goal.returns-then-out-len
 returns-then-out-len c =
     let a = c.args in
-    too_short (graph_text (graph_of a.nodes.now a.text.now a.links.now a.c)) a.out.now c.fill_graph-len.new.out c.fill_graph-len.auto.1.1.1.1.0 c.fill_graph-len.result c.fill_graph-len.ensures.place c.if-out-len.true
+    too_short (graph_text (graph_of a.nodes.now a.text.now a.links.now a.c)) a.out.now c.fill_graph-len.new.out c.fill_graph-len.auto.out c.fill_graph-len.result c.fill_graph-len.ensures.place c.if-out-len.true
 
 pub returns : goal.returns
 returns c =
     let a = c.args in
-    printed (graph_text (graph_of a.nodes.now a.text.now a.links.now a.c)) a.out.now c.fill_graph-len.new.out c.fill_graph-len.auto.1.1.1.1.0 c.fill_graph-len.result c.fill_graph-len.ensures.place c.if-out-len.false c.fill_graph.ensures
+    printed (graph_text (graph_of a.nodes.now a.text.now a.links.now a.c)) a.out.now c.fill_graph-len.new.out c.fill_graph-len.auto.out c.fill_graph-len.result c.fill_graph-len.ensures.place c.if-out-len.false c.fill_graph.ensures
