@@ -32,7 +32,7 @@ module _ (g : Graph) (first : Bool) (b s : Step) where
   -- the two steps as they were packed, and whether there is one before
   module _ (u v : Handle) (p : u ≡ pack b.id b.direction) (q : v ≡ pack s.id s.direction) (e : in_range b ≡ true) (f : in_range s ≡ true) (alone : Bool) (z : first ≡ alone) where
     abbrev flat : Handle → Handle → ℕ
-    flat h k = (step_fault g 0 0 (cond alone [] (events.stepTo h b.length ∷ [])) (events.stepTo k s.length)).number
+    flat h k = (step_fault g 0 0 (cond alone [] (events.step_to h b.length ∷ [])) (events.step_to k s.length)).number
 
     pub both_in : flat u v ≡ fields_fault g first b s
     both_in = ap₂ flat p q ∙ rw (e, f, z)
