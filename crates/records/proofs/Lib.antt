@@ -1,4 +1,3 @@
-pub mod Lent
 pub mod Ranged
 pub mod Scan
 mod Worked

@@ -19,8 +19,8 @@ loop-k-init c =
 pub expand_node-next-requires : goal.expand_node-next-requires
 expand_node-next-requires c =
     let next-step : let ws = event_walk c.args.rules.now c.args.steps.now c.args.i in drop c.loop-k.k ws ≡ step_at c.args.steps.now (get_or c.args.rules.now (4 * c.args.i + 2) 0 + c.loop-k.k) ∷ drop (c.loop-k.k + 1) ws =
-      let a = c.args in
-      steps_next (get_or a.rules.now (4 * a.i + 3) 0) (get_or a.rules.now (4 * a.i + 2) 0) c.loop-k.k a.steps.now c.loop-k-test.true
+    let a = c.args in
+    steps_next (get_or a.rules.now (4 * a.i + 3) 0) (get_or a.rules.now (4 * a.i + 2) 0) c.loop-k.k a.steps.now c.loop-k-test.true
     in
     let a = c.args in
     turn_asks a.table.now a.out.now a.d (a.i + 1) (get_or a.table.now (4 * a.i + 2) 0) (event_walk a.rules.now a.steps.now a.i) c.requires.3 c.loop-k.out c.loop-k.next c.loop-k.k _ (next-step) c.loop-k.invariant.1
@@ -28,12 +28,12 @@ expand_node-next-requires c =
 pub loop-k-preserved : goal.loop-k-preserved
 loop-k-preserved c =
     let next-step : let ws = event_walk c.args.rules.now c.args.steps.now c.args.i in drop c.loop-k.k ws ≡ step_at c.args.steps.now (get_or c.args.rules.now (4 * c.args.i + 2) 0 + c.loop-k.k) ∷ drop (c.loop-k.k + 1) ws =
-      let a = c.args in
-      steps_next (get_or a.rules.now (4 * a.i + 3) 0) (get_or a.rules.now (4 * a.i + 2) 0) c.loop-k.k a.steps.now c.loop-k-test.true
+    let a = c.args in
+    steps_next (get_or a.rules.now (4 * a.i + 3) 0) (get_or a.rules.now (4 * a.i + 2) 0) c.loop-k.k a.steps.now c.loop-k-test.true
     in
     let a = c.args in (
-    omega arith,
-    turn_leaves a.table.now a.out.now a.d (a.i + 1) (get_or a.table.now (4 * a.i + 2) 0) (event_walk a.rules.now a.steps.now a.i) c.requires.3 c.loop-k.out c.loop-k.next c.loop-k.k _ (next-step) c.loop-k.invariant.1 _ _ c.expand_node-next.ensures,
+      omega arith,
+      turn_leaves a.table.now a.out.now a.d (a.i + 1) (get_or a.table.now (4 * a.i + 2) 0) (event_walk a.rules.now a.steps.now a.i) c.requires.3 c.loop-k.out c.loop-k.next c.loop-k.k _ (next-step) c.loop-k.invariant.1 _ _ c.expand_node-next.ensures,
     )
 
 pub returns : goal.returns

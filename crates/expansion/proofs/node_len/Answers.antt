@@ -14,28 +14,28 @@ returns-in_default c = rw (sym c.next_rule.ensures ∙ c.in_default.is)
 pub offset_bounds-lens-j : goal.offset_bounds-lens-j
 offset_bounds-lens-j c =
     let found : find_from (keyed c.args.id c.args.len) c.args.ahead (drop c.args.ahead (rules_of c.args.count c.args.rules.now)) ≡ At c.in-At.j =
-      sym c.next_rule.ensures ∙ c.in-At.is
+    sym c.next_rule.ensures ∙ c.in-At.is
     in
     let place : c.in-At.j < c.args.count =
-      let a = c.args in
-      found_below (keyed a.id a.len) a.count a.ahead c.in-At.j a.rules.now (found)
+    let a = c.args in
+    found_below (keyed a.id a.len) a.count a.ahead c.in-At.j a.rules.now (found)
     in
     omega (arith, place)
 
 pub bounds-lens-j : goal.bounds-lens-j
 bounds-lens-j c =
     let found : find_from (keyed c.args.id c.args.len) c.args.ahead (drop c.args.ahead (rules_of c.args.count c.args.rules.now)) ≡ At c.in-At.j =
-      sym c.next_rule.ensures ∙ c.in-At.is
+    sym c.next_rule.ensures ∙ c.in-At.is
     in
     let place : c.in-At.j < c.args.count =
-      let a = c.args in
-      found_below (keyed a.id a.len) a.count a.ahead c.in-At.j a.rules.now (found)
+    let a = c.args in
+    found_below (keyed a.id a.len) a.count a.ahead c.in-At.j a.rules.now (found)
     in
     omega (arith, place)
 
 pub returns : goal.returns
 returns c =
     let found : find_from (keyed c.args.id c.args.len) c.args.ahead (drop c.args.ahead (rules_of c.args.count c.args.rules.now)) ≡ At c.in-At.j =
-      sym c.next_rule.ensures ∙ c.in-At.is
+    sym c.next_rule.ensures ∙ c.in-At.is
     in
     rw (found)

@@ -13,25 +13,25 @@ use Rattle.expansion.proofs.walk_len.Goals as goal
 pub overflow_add-total : goal.overflow_add-total
 overflow_add-total c =
     let size : c.node_len.result ≡ capped (length (node_in c.args.rules.now c.args.steps.now c.args.c c.args.ahead (step_at c.args.steps.now (c.args.first + c.loop-k.k)))) =
-      let a = c.args in
-      c.node_len.ensures
-      ∙ ap (λ (i : ℕ). size_at a.lens.now (find_from (keyed i (step_at a.steps.now (a.first + c.loop-k.k)).len) a.ahead (drop a.ahead (rules_of a.c.rules a.rules.now)))) c.id.ensures
-      ∙ node-size a.rules.now a.steps.now a.c a.lens.now a.ahead (step_at a.steps.now (a.first + c.loop-k.k)) c.requires.0
+    let a = c.args in
+    c.node_len.ensures
+    ∙ ap (λ (i : ℕ). size_at a.lens.now (find_from (keyed i (step_at a.steps.now (a.first + c.loop-k.k)).len) a.ahead (drop a.ahead (rules_of a.c.rules a.rules.now)))) c.id.ensures
+    ∙ node-size a.rules.now a.steps.now a.c a.lens.now a.ahead (step_at a.steps.now (a.first + c.loop-k.k)) c.requires.0
     in
     omega (arith, size)
 
 pub loop-k-preserved : goal.loop-k-preserved
 loop-k-preserved c =
     let size : c.node_len.result ≡ capped (length (node_in c.args.rules.now c.args.steps.now c.args.c c.args.ahead (step_at c.args.steps.now (c.args.first + c.loop-k.k)))) =
-      let a = c.args in
-      c.node_len.ensures
-      ∙ ap (λ (i : ℕ). size_at a.lens.now (find_from (keyed i (step_at a.steps.now (a.first + c.loop-k.k)).len) a.ahead (drop a.ahead (rules_of a.c.rules a.rules.now)))) c.id.ensures
-      ∙ node-size a.rules.now a.steps.now a.c a.lens.now a.ahead (step_at a.steps.now (a.first + c.loop-k.k)) c.requires.0
+    let a = c.args in
+    c.node_len.ensures
+    ∙ ap (λ (i : ℕ). size_at a.lens.now (find_from (keyed i (step_at a.steps.now (a.first + c.loop-k.k)).len) a.ahead (drop a.ahead (rules_of a.c.rules a.rules.now)))) c.id.ensures
+    ∙ node-size a.rules.now a.steps.now a.c a.lens.now a.ahead (step_at a.steps.now (a.first + c.loop-k.k)) c.requires.0
     in
     let a = c.args in (
-    omega arith,
-    omega (arith, c.capped-total.ensures),
-    rw c.capped-total.ensures (walk_count a.rules.now a.steps.now a.c a.ahead a.first a.n c.requires.1 c.loop-k.k c.loop-k.total c.node_len.result c.loop-k-test.true (size) c.loop-k.invariant.2),
+      omega arith,
+      omega (arith, c.capped-total.ensures),
+      rw c.capped-total.ensures (walk_count a.rules.now a.steps.now a.c a.ahead a.first a.n c.requires.1 c.loop-k.k c.loop-k.total c.node_len.result c.loop-k-test.true (size) c.loop-k.invariant.2),
     )
 
 pub returns : goal.returns

@@ -20,72 +20,72 @@ scan-init c = (omega arith, refl)
 pub overflow_mul-first : goal.overflow_mul-first
 overflow_mul-first c =
     let table : let r = rule_at c.args.rules.now c.scan.i in RuleRoom c.args.rules.now c.args.steps.now c.args.u × (r.first + r.steps ≤ c.args.u.steps) =
-      let a = c.args in
-      (table-room a.rules.now a.steps.now a.u c.requires.d_value.1, table-inside a.rules.now a.steps.now a.u c.requires.d_value.1 c.scan.i (omega arith))
+    let a = c.args in
+    (table-room a.rules.now a.steps.now a.u c.requires.d_value.1, table-inside a.rules.now a.steps.now a.u c.requires.d_value.1 c.scan.i (omega arith))
     in
     omega (arith, (table).0)
 
 pub overflow_add-first : goal.overflow_add-first
 overflow_add-first c =
     let table : let r = rule_at c.args.rules.now c.scan.i in RuleRoom c.args.rules.now c.args.steps.now c.args.u × (r.first + r.steps ≤ c.args.u.steps) =
-      let a = c.args in
-      (table-room a.rules.now a.steps.now a.u c.requires.d_value.1, table-inside a.rules.now a.steps.now a.u c.requires.d_value.1 c.scan.i (omega arith))
+    let a = c.args in
+    (table-room a.rules.now a.steps.now a.u c.requires.d_value.1, table-inside a.rules.now a.steps.now a.u c.requires.d_value.1 c.scan.i (omega arith))
     in
     omega (arith, (table).0)
 
 pub offset_bounds-rules-i : goal.offset_bounds-rules-i
 offset_bounds-rules-i c =
     let table : let r = rule_at c.args.rules.now c.scan.i in RuleRoom c.args.rules.now c.args.steps.now c.args.u × (r.first + r.steps ≤ c.args.u.steps) =
-      let a = c.args in
-      (table-room a.rules.now a.steps.now a.u c.requires.d_value.1, table-inside a.rules.now a.steps.now a.u c.requires.d_value.1 c.scan.i (omega arith))
+    let a = c.args in
+    (table-room a.rules.now a.steps.now a.u c.requires.d_value.1, table-inside a.rules.now a.steps.now a.u c.requires.d_value.1 c.scan.i (omega arith))
     in
     omega (arith, (table).0)
 
 pub bounds-rules-i : goal.bounds-rules-i
 bounds-rules-i c =
     let table : let r = rule_at c.args.rules.now c.scan.i in RuleRoom c.args.rules.now c.args.steps.now c.args.u × (r.first + r.steps ≤ c.args.u.steps) =
-      let a = c.args in
-      (table-room a.rules.now a.steps.now a.u c.requires.d_value.1, table-inside a.rules.now a.steps.now a.u c.requires.d_value.1 c.scan.i (omega arith))
+    let a = c.args in
+    (table-room a.rules.now a.steps.now a.u c.requires.d_value.1, table-inside a.rules.now a.steps.now a.u c.requires.d_value.1 c.scan.i (omega arith))
     in
     omega (arith, (table).0)
 
 pub overflow_mul-walk : goal.overflow_mul-walk
 overflow_mul-walk c =
     let table : let r = rule_at c.args.rules.now c.scan.i in RuleRoom c.args.rules.now c.args.steps.now c.args.u × (r.first + r.steps ≤ c.args.u.steps) =
-      let a = c.args in
-      (table-room a.rules.now a.steps.now a.u c.requires.d_value.1, table-inside a.rules.now a.steps.now a.u c.requires.d_value.1 c.scan.i (omega arith))
+    let a = c.args in
+    (table-room a.rules.now a.steps.now a.u c.requires.d_value.1, table-inside a.rules.now a.steps.now a.u c.requires.d_value.1 c.scan.i (omega arith))
     in
     omega (arith, (table).0)
 
 pub overflow_add-walk : goal.overflow_add-walk
 overflow_add-walk c =
     let table : let r = rule_at c.args.rules.now c.scan.i in RuleRoom c.args.rules.now c.args.steps.now c.args.u × (r.first + r.steps ≤ c.args.u.steps) =
-      let a = c.args in
-      (table-room a.rules.now a.steps.now a.u c.requires.d_value.1, table-inside a.rules.now a.steps.now a.u c.requires.d_value.1 c.scan.i (omega arith))
+    let a = c.args in
+    (table-room a.rules.now a.steps.now a.u c.requires.d_value.1, table-inside a.rules.now a.steps.now a.u c.requires.d_value.1 c.scan.i (omega arith))
     in
     omega (arith, (table).0)
 
 pub offset_bounds-rules-i-in-scan : goal.offset_bounds-rules-i-in-scan
 offset_bounds-rules-i-in-scan c =
     let table : let r = rule_at c.args.rules.now c.scan.i in RuleRoom c.args.rules.now c.args.steps.now c.args.u × (r.first + r.steps ≤ c.args.u.steps) =
-      let a = c.args in
-      (table-room a.rules.now a.steps.now a.u c.requires.d_value.1, table-inside a.rules.now a.steps.now a.u c.requires.d_value.1 c.scan.i (omega arith))
+    let a = c.args in
+    (table-room a.rules.now a.steps.now a.u c.requires.d_value.1, table-inside a.rules.now a.steps.now a.u c.requires.d_value.1 c.scan.i (omega arith))
     in
     omega (arith, (table).0)
 
 pub bounds-rules-i-in-scan : goal.bounds-rules-i-in-scan
 bounds-rules-i-in-scan c =
     let table : let r = rule_at c.args.rules.now c.scan.i in RuleRoom c.args.rules.now c.args.steps.now c.args.u × (r.first + r.steps ≤ c.args.u.steps) =
-      let a = c.args in
-      (table-room a.rules.now a.steps.now a.u c.requires.d_value.1, table-inside a.rules.now a.steps.now a.u c.requires.d_value.1 c.scan.i (omega arith))
+    let a = c.args in
+    (table-room a.rules.now a.steps.now a.u c.requires.d_value.1, table-inside a.rules.now a.steps.now a.u c.requires.d_value.1 c.scan.i (omega arith))
     in
     omega (arith, (table).0)
 
 pub loop-j-init : goal.loop-j-init
 loop-j-init c =
     let table : let r = rule_at c.args.rules.now c.scan.i in RuleRoom c.args.rules.now c.args.steps.now c.args.u × (r.first + r.steps ≤ c.args.u.steps) =
-      let a = c.args in
-      (table-room a.rules.now a.steps.now a.u c.requires.d_value.1, table-inside a.rules.now a.steps.now a.u c.requires.d_value.1 c.scan.i (omega arith))
+    let a = c.args in
+    (table-room a.rules.now a.steps.now a.u c.requires.d_value.1, table-inside a.rules.now a.steps.now a.u c.requires.d_value.1 c.scan.i (omega arith))
     in
     let a = c.args in
     (omega arith, steps_all (graph_of a.nodes.now a.text.now a.links.now a.d) a.steps.now c.scan.i a.u.steps (rule_at a.rules.now c.scan.i) (table).1)
@@ -93,8 +93,8 @@ loop-j-init c =
 pub overflow_add-first-in-loop-j : goal.overflow_add-first-in-loop-j
 overflow_add-first-in-loop-j c =
     let table : let r = rule_at c.args.rules.now c.scan.i in RuleRoom c.args.rules.now c.args.steps.now c.args.u × (r.first + r.steps ≤ c.args.u.steps) =
-      let a = c.args in
-      (table-room a.rules.now a.steps.now a.u c.requires.d_value.1, table-inside a.rules.now a.steps.now a.u c.requires.d_value.1 c.scan.i (omega arith))
+    let a = c.args in
+    (table-room a.rules.now a.steps.now a.u c.requires.d_value.1, table-inside a.rules.now a.steps.now a.u c.requires.d_value.1 c.scan.i (omega arith))
     in
     let a = c.args in
     let old = graph_of a.old_nodes.now a.old_text.now [] a.c in
@@ -105,8 +105,8 @@ overflow_add-first-in-loop-j c =
 pub step_fault-n-requires : goal.step_fault-n-requires
 step_fault-n-requires c =
     let table : let r = rule_at c.args.rules.now c.scan.i in RuleRoom c.args.rules.now c.args.steps.now c.args.u × (r.first + r.steps ≤ c.args.u.steps) =
-      let a = c.args in
-      (table-room a.rules.now a.steps.now a.u c.requires.d_value.1, table-inside a.rules.now a.steps.now a.u c.requires.d_value.1 c.scan.i (omega arith))
+    let a = c.args in
+    (table-room a.rules.now a.steps.now a.u c.requires.d_value.1, table-inside a.rules.now a.steps.now a.u c.requires.d_value.1 c.scan.i (omega arith))
     in
     let a = c.args in
     let old = graph_of a.old_nodes.now a.old_text.now [] a.c in
@@ -118,18 +118,18 @@ step_fault-n-requires c =
 pub overflow_add-j : goal.overflow_add-j
 overflow_add-j c =
     let table : let r = rule_at c.args.rules.now c.scan.i in RuleRoom c.args.rules.now c.args.steps.now c.args.u × (r.first + r.steps ≤ c.args.u.steps) =
-      let a = c.args in
-      (table-room a.rules.now a.steps.now a.u c.requires.d_value.1, table-inside a.rules.now a.steps.now a.u c.requires.d_value.1 c.scan.i (omega arith))
+    let a = c.args in
+    (table-room a.rules.now a.steps.now a.u c.requires.d_value.1, table-inside a.rules.now a.steps.now a.u c.requires.d_value.1 c.scan.i (omega arith))
     in
     omega (arith, (table).0, (table).1)
 
 pub loop-j-preserved : goal.loop-j-preserved
 loop-j-preserved c =
     let numbered : let k = (rule_at c.args.rules.now c.scan.i).first + c.loop-j.j in c.step_fault-n.result ≡ (step_fault (graph_of c.args.nodes.now c.args.text.now c.args.links.now c.args.d) 0 0 (step_before c.args.steps.now k c.loop-j.j) (step_at c.args.steps.now k)).number =
-      let a = c.args in
-      let k : ℕ = (rule_at a.rules.now c.scan.i).first + c.loop-j.j in
-      c.step_fault-n.ensures
-      ∙ ap (λ (v : Verdict). v.number) (step_text_lem a.nodes.now a.text.now a.links.now a.d (step_before a.steps.now k c.loop-j.j) (step_at a.steps.now k))
+    let a = c.args in
+    let k : ℕ = (rule_at a.rules.now c.scan.i).first + c.loop-j.j in
+    c.step_fault-n.ensures
+    ∙ ap (λ (v : Verdict). v.number) (step_text_lem a.nodes.now a.text.now a.links.now a.d (step_before a.steps.now k c.loop-j.j) (step_at a.steps.now k))
     in
     let a = c.args in
     let old = graph_of a.old_nodes.now a.old_text.now [] a.c in
@@ -140,8 +140,8 @@ loop-j-preserved c =
 pub key_fault-n-requires : goal.key_fault-n-requires
 key_fault-n-requires c =
     let table : let r = rule_at c.args.rules.now c.scan.i in RuleRoom c.args.rules.now c.args.steps.now c.args.u × (r.first + r.steps ≤ c.args.u.steps) =
-      let a = c.args in
-      (table-room a.rules.now a.steps.now a.u c.requires.d_value.1, table-inside a.rules.now a.steps.now a.u c.requires.d_value.1 c.scan.i (omega arith))
+    let a = c.args in
+    (table-room a.rules.now a.steps.now a.u c.requires.d_value.1, table-inside a.rules.now a.steps.now a.u c.requires.d_value.1 c.scan.i (omega arith))
     in
     let a = c.args in
     let old = graph_of a.old_nodes.now a.old_text.now [] a.c in
@@ -153,8 +153,8 @@ key_fault-n-requires c =
 pub overflow_add-i : goal.overflow_add-i
 overflow_add-i c =
     let table : let r = rule_at c.args.rules.now c.scan.i in RuleRoom c.args.rules.now c.args.steps.now c.args.u × (r.first + r.steps ≤ c.args.u.steps) =
-      let a = c.args in
-      (table-room a.rules.now a.steps.now a.u c.requires.d_value.1, table-inside a.rules.now a.steps.now a.u c.requires.d_value.1 c.scan.i (omega arith))
+    let a = c.args in
+    (table-room a.rules.now a.steps.now a.u c.requires.d_value.1, table-inside a.rules.now a.steps.now a.u c.requires.d_value.1 c.scan.i (omega arith))
     in
     omega (arith, (table).0)
 
@@ -184,10 +184,10 @@ returns-then-walk-eq0 c =
 pub returns-then-n-ne0 : goal.returns-then-n-ne0
 returns-then-n-ne0 c =
     let numbered : let k = (rule_at c.args.rules.now c.scan.i).first + c.loop-j.j in c.step_fault-n.result ≡ (step_fault (graph_of c.args.nodes.now c.args.text.now c.args.links.now c.args.d) 0 0 (step_before c.args.steps.now k c.loop-j.j) (step_at c.args.steps.now k)).number =
-      let a = c.args in
-      let k : ℕ = (rule_at a.rules.now c.scan.i).first + c.loop-j.j in
-      c.step_fault-n.ensures
-      ∙ ap (λ (v : Verdict). v.number) (step_text_lem a.nodes.now a.text.now a.links.now a.d (step_before a.steps.now k c.loop-j.j) (step_at a.steps.now k))
+    let a = c.args in
+    let k : ℕ = (rule_at a.rules.now c.scan.i).first + c.loop-j.j in
+    c.step_fault-n.ensures
+    ∙ ap (λ (v : Verdict). v.number) (step_text_lem a.nodes.now a.text.now a.links.now a.d (step_before a.steps.now k c.loop-j.j) (step_at a.steps.now k))
     in
     let a = c.args in
     let old = graph_of a.old_nodes.now a.old_text.now [] a.c in

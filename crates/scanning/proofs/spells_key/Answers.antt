@@ -63,52 +63,52 @@ returns-in_default c =
 pub overflow_mul-i : goal.overflow_mul-i
 overflow_mul-i c =
     let found : NodeFound c.args.c.nodes c.args.old_nodes.now c.args.id c.in-At.i =
-      let a = c.args in
-      node-found a.c.nodes a.old_nodes.now a.id c.in-At.i (sym c.find_node.ensures ∙ c.in-At.is)
+    let a = c.args in
+    node-found a.c.nodes a.old_nodes.now a.id c.in-At.i (sym c.find_node.ensures ∙ c.in-At.is)
     in
     let room : 4 * c.args.c.nodes ≤ length c.args.old_nodes.now =
-      c.requires.0.node_room
+    c.requires.0.node_room
     in
     omega (arith, (found).within, room)
 
 pub overflow_add-i : goal.overflow_add-i
 overflow_add-i c =
     let found : NodeFound c.args.c.nodes c.args.old_nodes.now c.args.id c.in-At.i =
-      let a = c.args in
-      node-found a.c.nodes a.old_nodes.now a.id c.in-At.i (sym c.find_node.ensures ∙ c.in-At.is)
+    let a = c.args in
+    node-found a.c.nodes a.old_nodes.now a.id c.in-At.i (sym c.find_node.ensures ∙ c.in-At.is)
     in
     let room : 4 * c.args.c.nodes ≤ length c.args.old_nodes.now =
-      c.requires.0.node_room
+    c.requires.0.node_room
     in
     omega (arith, (found).within, room)
 
 pub offset_bounds-old_nodes-i : goal.offset_bounds-old_nodes-i
 offset_bounds-old_nodes-i c =
     let found : NodeFound c.args.c.nodes c.args.old_nodes.now c.args.id c.in-At.i =
-      let a = c.args in
-      node-found a.c.nodes a.old_nodes.now a.id c.in-At.i (sym c.find_node.ensures ∙ c.in-At.is)
+    let a = c.args in
+    node-found a.c.nodes a.old_nodes.now a.id c.in-At.i (sym c.find_node.ensures ∙ c.in-At.is)
     in
     let room : 4 * c.args.c.nodes ≤ length c.args.old_nodes.now =
-      c.requires.0.node_room
+    c.requires.0.node_room
     in
     omega (arith, (found).within, room)
 
 pub bounds-old_nodes-i : goal.bounds-old_nodes-i
 bounds-old_nodes-i c =
     let found : NodeFound c.args.c.nodes c.args.old_nodes.now c.args.id c.in-At.i =
-      let a = c.args in
-      node-found a.c.nodes a.old_nodes.now a.id c.in-At.i (sym c.find_node.ensures ∙ c.in-At.is)
+    let a = c.args in
+    node-found a.c.nodes a.old_nodes.now a.id c.in-At.i (sym c.find_node.ensures ∙ c.in-At.is)
     in
     let room : 4 * c.args.c.nodes ≤ length c.args.old_nodes.now =
-      c.requires.0.node_room
+    c.requires.0.node_room
     in
     omega (arith, (found).within, room)
 
 pub returns-then-old_nodes-i : goal.returns-then-old_nodes-i
 returns-then-old_nodes-i c =
     let found : NodeFound c.args.c.nodes c.args.old_nodes.now c.args.id c.in-At.i =
-      let a = c.args in
-      node-found a.c.nodes a.old_nodes.now a.id c.in-At.i (sym c.find_node.ensures ∙ c.in-At.is)
+    let a = c.args in
+    node-found a.c.nodes a.old_nodes.now a.id c.in-At.i (sym c.find_node.ensures ∙ c.in-At.is)
     in
     let a = c.args in
     other_length a.old_nodes.now a.old_text.now a.c a.id a.len _ c.in-At.i (found) c.if-old_nodes-i.true
@@ -116,52 +116,52 @@ returns-then-old_nodes-i c =
 pub overflow_mul-r : goal.overflow_mul-r
 overflow_mul-r c =
     let found : NodeFound c.args.c.nodes c.args.old_nodes.now c.args.id c.in-At.i =
-      let a = c.args in
-      node-found a.c.nodes a.old_nodes.now a.id c.in-At.i (sym c.find_node.ensures ∙ c.in-At.is)
+    let a = c.args in
+    node-found a.c.nodes a.old_nodes.now a.id c.in-At.i (sym c.find_node.ensures ∙ c.in-At.is)
     in
     let room : 4 * c.args.c.nodes ≤ length c.args.old_nodes.now =
-      c.requires.0.node_room
+    c.requires.0.node_room
     in
     omega (arith, (found).within, room)
 
 pub overflow_add-r : goal.overflow_add-r
 overflow_add-r c =
     let found : NodeFound c.args.c.nodes c.args.old_nodes.now c.args.id c.in-At.i =
-      let a = c.args in
-      node-found a.c.nodes a.old_nodes.now a.id c.in-At.i (sym c.find_node.ensures ∙ c.in-At.is)
+    let a = c.args in
+    node-found a.c.nodes a.old_nodes.now a.id c.in-At.i (sym c.find_node.ensures ∙ c.in-At.is)
     in
     let room : 4 * c.args.c.nodes ≤ length c.args.old_nodes.now =
-      c.requires.0.node_room
+    c.requires.0.node_room
     in
     omega (arith, (found).within, room)
 
 pub offset_bounds-old_nodes-i-2 : goal.offset_bounds-old_nodes-i-2
 offset_bounds-old_nodes-i-2 c =
     let found : NodeFound c.args.c.nodes c.args.old_nodes.now c.args.id c.in-At.i =
-      let a = c.args in
-      node-found a.c.nodes a.old_nodes.now a.id c.in-At.i (sym c.find_node.ensures ∙ c.in-At.is)
+    let a = c.args in
+    node-found a.c.nodes a.old_nodes.now a.id c.in-At.i (sym c.find_node.ensures ∙ c.in-At.is)
     in
     let room : 4 * c.args.c.nodes ≤ length c.args.old_nodes.now =
-      c.requires.0.node_room
+    c.requires.0.node_room
     in
     omega (arith, (found).within, room)
 
 pub bounds-old_nodes-i-2 : goal.bounds-old_nodes-i-2
 bounds-old_nodes-i-2 c =
     let found : NodeFound c.args.c.nodes c.args.old_nodes.now c.args.id c.in-At.i =
-      let a = c.args in
-      node-found a.c.nodes a.old_nodes.now a.id c.in-At.i (sym c.find_node.ensures ∙ c.in-At.is)
+    let a = c.args in
+    node-found a.c.nodes a.old_nodes.now a.id c.in-At.i (sym c.find_node.ensures ∙ c.in-At.is)
     in
     let room : 4 * c.args.c.nodes ≤ length c.args.old_nodes.now =
-      c.requires.0.node_room
+    c.requires.0.node_room
     in
     omega (arith, (found).within, room)
 
 pub same_walk-requires : goal.same_walk-requires
 same_walk-requires c =
     let found : NodeFound c.args.c.nodes c.args.old_nodes.now c.args.id c.in-At.i =
-      let a = c.args in
-      node-found a.c.nodes a.old_nodes.now a.id c.in-At.i (sym c.find_node.ensures ∙ c.in-At.is)
+    let a = c.args in
+    node-found a.c.nodes a.old_nodes.now a.id c.in-At.i (sym c.find_node.ensures ∙ c.in-At.is)
     in
     let a = c.args in
     let e = at_key a.old_nodes.now a.old_text.now a.c a.id a.len true c.in-At.i (found) c.if-old_nodes-i.false in
@@ -170,8 +170,8 @@ same_walk-requires c =
 pub returns : goal.returns
 returns c =
     let found : NodeFound c.args.c.nodes c.args.old_nodes.now c.args.id c.in-At.i =
-      let a = c.args in
-      node-found a.c.nodes a.old_nodes.now a.id c.in-At.i (sym c.find_node.ensures ∙ c.in-At.is)
+    let a = c.args in
+    node-found a.c.nodes a.old_nodes.now a.id c.in-At.i (sym c.find_node.ensures ∙ c.in-At.is)
     in
     let a = c.args in
     let l = c.if-old_nodes-i.false in

@@ -71,32 +71,32 @@ returns-then-not-live_node c =
 pub overflow_mul-i : goal.overflow_mul-i
 overflow_mul-i c =
     let within : c.in-At.i < c.args.d.nodes =
-      let a = c.args in
-      (node-found a.d.nodes a.nodes.now c.id-id.result c.in-At.i (sym c.find_node.ensures ∙ c.in-At.is)).within
+    let a = c.args in
+    (node-found a.d.nodes a.nodes.now c.id-id.result c.in-At.i (sym c.find_node.ensures ∙ c.in-At.is)).within
     in
     omega (arith, within)
 
 pub overflow_add-i : goal.overflow_add-i
 overflow_add-i c =
     let within : c.in-At.i < c.args.d.nodes =
-      let a = c.args in
-      (node-found a.d.nodes a.nodes.now c.id-id.result c.in-At.i (sym c.find_node.ensures ∙ c.in-At.is)).within
+    let a = c.args in
+    (node-found a.d.nodes a.nodes.now c.id-id.result c.in-At.i (sym c.find_node.ensures ∙ c.in-At.is)).within
     in
     omega (arith, within)
 
 pub offset_bounds-nodes-i : goal.offset_bounds-nodes-i
 offset_bounds-nodes-i c =
     let within : c.in-At.i < c.args.d.nodes =
-      let a = c.args in
-      (node-found a.d.nodes a.nodes.now c.id-id.result c.in-At.i (sym c.find_node.ensures ∙ c.in-At.is)).within
+    let a = c.args in
+    (node-found a.d.nodes a.nodes.now c.id-id.result c.in-At.i (sym c.find_node.ensures ∙ c.in-At.is)).within
     in
     omega (arith, within)
 
 pub bounds-nodes-i : goal.bounds-nodes-i
 bounds-nodes-i c =
     let within : c.in-At.i < c.args.d.nodes =
-      let a = c.args in
-      (node-found a.d.nodes a.nodes.now c.id-id.result c.in-At.i (sym c.find_node.ensures ∙ c.in-At.is)).within
+    let a = c.args in
+    (node-found a.d.nodes a.nodes.now c.id-id.result c.in-At.i (sym c.find_node.ensures ∙ c.in-At.is)).within
     in
     omega (arith, within)
 
@@ -108,26 +108,26 @@ returns-then-steps-at c =
 pub returns-then-j-eq0 : goal.returns-then-j-eq0
 returns-then-j-eq0 c =
     let told : let new = graph_of c.args.nodes.now [] c.args.links.now c.args.d in let b = step_before c.args.steps.now c.args.at c.args.j in let s = step_at c.args.steps.now c.args.at in (follows new b s ≡ false → 23 ≡ (step_fault new 0 0 b s).number) × (follows new b s ≡ true → 0 ≡ (step_fault new 0 0 b s).number) =
-      let a = c.args in
-      follower a.nodes.now a.links.now a.steps.now a.d a.at c.id-id.result (step_before a.steps.now a.at a.j) c.id-id.ensures (sym c.live_node.ensures ∙ not-false c.live_node.result c.if-not-live_node.false-raw) c.in-At.i (sym c.find_node.ensures ∙ c.in-At.is) c.if-steps-at.false
+    let a = c.args in
+    follower a.nodes.now a.links.now a.steps.now a.d a.at c.id-id.result (step_before a.steps.now a.at a.j) c.id-id.ensures (sym c.live_node.ensures ∙ not-false c.live_node.result c.if-not-live_node.false-raw) c.in-At.i (sym c.find_node.ensures ∙ c.in-At.is) c.if-steps-at.false
     in
     let a = c.args in
-    (told).1 (first-follows a.steps.now _ _ a.at a.j c.if-j-eq0.true)
+    (told).1 (first-follows a.steps.now (graph_of a.nodes.now [] a.links.now a.d) (step_at a.steps.now a.at) a.at a.j c.if-j-eq0.true)
 
 pub returns-then-not-live_linked : goal.returns-then-not-live_linked
 returns-then-not-live_linked c =
     let told : let new = graph_of c.args.nodes.now [] c.args.links.now c.args.d in let b = step_before c.args.steps.now c.args.at c.args.j in let s = step_at c.args.steps.now c.args.at in (follows new b s ≡ false → 23 ≡ (step_fault new 0 0 b s).number) × (follows new b s ≡ true → 0 ≡ (step_fault new 0 0 b s).number) =
-      let a = c.args in
-      follower a.nodes.now a.links.now a.steps.now a.d a.at c.id-id.result (step_before a.steps.now a.at a.j) c.id-id.ensures (sym c.live_node.ensures ∙ not-false c.live_node.result c.if-not-live_node.false-raw) c.in-At.i (sym c.find_node.ensures ∙ c.in-At.is) c.if-steps-at.false
+    let a = c.args in
+    follower a.nodes.now a.links.now a.steps.now a.d a.at c.id-id.result (step_before a.steps.now a.at a.j) c.id-id.ensures (sym c.live_node.ensures ∙ not-false c.live_node.result c.if-not-live_node.false-raw) c.in-At.i (sym c.find_node.ensures ∙ c.in-At.is) c.if-steps-at.false
     in
     let a = c.args in
-    (told).0 (later-follows a.steps.now _ _ a.at a.j c.if-j-eq0.false ∙ sym c.live_linked.ensures ∙ not-true c.live_linked.result c.if-not-live_linked.true-raw)
+    (told).0 (later-follows a.steps.now (graph_of a.nodes.now [] a.links.now a.d) (step_at a.steps.now a.at) a.at a.j c.if-j-eq0.false ∙ sym c.live_linked.ensures ∙ not-true c.live_linked.result c.if-not-live_linked.true-raw)
 
 pub returns : goal.returns
 returns c =
     let told : let new = graph_of c.args.nodes.now [] c.args.links.now c.args.d in let b = step_before c.args.steps.now c.args.at c.args.j in let s = step_at c.args.steps.now c.args.at in (follows new b s ≡ false → 23 ≡ (step_fault new 0 0 b s).number) × (follows new b s ≡ true → 0 ≡ (step_fault new 0 0 b s).number) =
-      let a = c.args in
-      follower a.nodes.now a.links.now a.steps.now a.d a.at c.id-id.result (step_before a.steps.now a.at a.j) c.id-id.ensures (sym c.live_node.ensures ∙ not-false c.live_node.result c.if-not-live_node.false-raw) c.in-At.i (sym c.find_node.ensures ∙ c.in-At.is) c.if-steps-at.false
+    let a = c.args in
+    follower a.nodes.now a.links.now a.steps.now a.d a.at c.id-id.result (step_before a.steps.now a.at a.j) c.id-id.ensures (sym c.live_node.ensures ∙ not-false c.live_node.result c.if-not-live_node.false-raw) c.in-At.i (sym c.find_node.ensures ∙ c.in-At.is) c.if-steps-at.false
     in
     let a = c.args in
-    (told).1 (later-follows a.steps.now _ _ a.at a.j c.if-j-eq0.false ∙ sym c.live_linked.ensures ∙ not-false c.live_linked.result c.if-not-live_linked.false-raw)
+    (told).1 (later-follows a.steps.now (graph_of a.nodes.now [] a.links.now a.d) (step_at a.steps.now a.at) a.at a.j c.if-j-eq0.false ∙ sym c.live_linked.ensures ∙ not-false c.live_linked.result c.if-not-live_linked.false-raw)

@@ -16,7 +16,7 @@ returns-then-not-well_formed c =
 pub returns-then-count-gt262144 : goal.returns-then-count-gt262144
 returns-then-count-gt262144 c =
     let graph_formed : well_formed c.args.nodes.now c.args.text.now c.args.links.now c.args.d ≡ true =
-      sym c.well_formed-2.ensures ∙ not-false _ c.if-not-well_formed.false-raw
+    sym c.well_formed-2.ensures ∙ not-false _ c.if-not-well_formed.false-raw
     in
     let a = c.args in
     c.fault-then-count-gt262144.ensures
@@ -25,10 +25,10 @@ returns-then-count-gt262144 c =
 pub ids_once-requires : goal.ids_once-requires
 ids_once-requires c =
     let graph_formed : well_formed c.args.nodes.now c.args.text.now c.args.links.now c.args.d ≡ true =
-      sym c.well_formed-2.ensures ∙ not-false _ c.if-not-well_formed.false-raw
+    sym c.well_formed-2.ensures ∙ not-false _ c.if-not-well_formed.false-raw
     in
     let is_formed : input_formed c.args.nodes.now c.args.text.now c.args.links.now c.args.d c.args.count ≡ true =
-      and_both _ _ (graph_formed) (le-leb _ 262144 c.if-count-gt262144.false)
+    and_both _ _ (graph_formed) (le-leb _ 262144 c.if-count-gt262144.false)
     in
     let a = c.args in
     (rooms a.nodes.now a.text.now a.links.now a.d a.count (is_formed)).0
@@ -36,10 +36,10 @@ ids_once-requires c =
 pub returns-then-not-ids_once : goal.returns-then-not-ids_once
 returns-then-not-ids_once c =
     let graph_formed : well_formed c.args.nodes.now c.args.text.now c.args.links.now c.args.d ≡ true =
-      sym c.well_formed-2.ensures ∙ not-false _ c.if-not-well_formed.false-raw
+    sym c.well_formed-2.ensures ∙ not-false _ c.if-not-well_formed.false-raw
     in
     let is_formed : input_formed c.args.nodes.now c.args.text.now c.args.links.now c.args.d c.args.count ≡ true =
-      and_both _ _ (graph_formed) (le-leb _ 262144 c.if-count-gt262144.false)
+    and_both _ _ (graph_formed) (le-leb _ 262144 c.if-count-gt262144.false)
     in
     let a = c.args in
     c.fault-then-not-ids_once.ensures
@@ -48,10 +48,10 @@ returns-then-not-ids_once c =
 pub returns : goal.returns
 returns c =
     let graph_formed : well_formed c.args.nodes.now c.args.text.now c.args.links.now c.args.d ≡ true =
-      sym c.well_formed-2.ensures ∙ not-false _ c.if-not-well_formed.false-raw
+    sym c.well_formed-2.ensures ∙ not-false _ c.if-not-well_formed.false-raw
     in
     let is_formed : input_formed c.args.nodes.now c.args.text.now c.args.links.now c.args.d c.args.count ≡ true =
-      and_both _ _ (graph_formed) (le-leb _ 262144 c.if-count-gt262144.false)
+    and_both _ _ (graph_formed) (le-leb _ 262144 c.if-count-gt262144.false)
     in
     let a = c.args in
     c.fault-2.ensures
