@@ -13,7 +13,7 @@ returns-then-count-gt1 c =
 pub returns-then-count-gt1-2 : goal.returns-then-count-gt1-2
 returns-then-count-gt1-2 c =
     let once_1 : ltb 1 (count_words 1 0 (words_of c.args.words.now)) ≡ false =
-      no_less refl c.count.ensures c.if-count-gt1.false
+    no_less refl c.count.ensures c.if-count-gt1.false
     in
     let many : ltb 1 (count_words 2 0 (words_of c.args.words.now)) ≡ true = less refl c.count-2.ensures c.if-count-gt1-2.true in
     rw (once_1, many)
@@ -21,10 +21,10 @@ returns-then-count-gt1-2 c =
 pub returns-then-count-gt1-3 : goal.returns-then-count-gt1-3
 returns-then-count-gt1-3 c =
     let once_1 : ltb 1 (count_words 1 0 (words_of c.args.words.now)) ≡ false =
-      no_less refl c.count.ensures c.if-count-gt1.false
+    no_less refl c.count.ensures c.if-count-gt1.false
     in
     let once_2 : ltb 1 (count_words 2 0 (words_of c.args.words.now)) ≡ false =
-      no_less refl c.count-2.ensures c.if-count-gt1-2.false
+    no_less refl c.count-2.ensures c.if-count-gt1-2.false
     in
     let many : ltb 1 (count_words 3 0 (words_of c.args.words.now)) ≡ true = less refl c.count-3.ensures c.if-count-gt1-3.true in
     rw (once_1, once_2, many)
@@ -32,12 +32,12 @@ returns-then-count-gt1-3 c =
 pub returns : goal.returns
 returns c =
     let once_1 : ltb 1 (count_words 1 0 (words_of c.args.words.now)) ≡ false =
-      no_less refl c.count.ensures c.if-count-gt1.false
+    no_less refl c.count.ensures c.if-count-gt1.false
     in
     let once_2 : ltb 1 (count_words 2 0 (words_of c.args.words.now)) ≡ false =
-      no_less refl c.count-2.ensures c.if-count-gt1-2.false
+    no_less refl c.count-2.ensures c.if-count-gt1-2.false
     in
     let once_3 : ltb 1 (count_words 3 0 (words_of c.args.words.now)) ≡ false =
-      no_less refl c.count-3.ensures c.if-count-gt1-3.false
+    no_less refl c.count-3.ensures c.if-count-gt1-3.false
     in
     rw (once_1, once_2, once_3, c.count-4.ensures)
