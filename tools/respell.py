@@ -18,7 +18,11 @@ TOP = "crates"
 TOKEN = re.compile(r"[^\s(){}\[\],;.λ\"`]+")
 SIGNATURE = re.compile(r"^(\s*)((?:abbrev |unfoldable |pub )*)([^\s:(){}\[\],;=λ]+) : (.*)$")
 # port.py gave a lemma and a definition one name in some files of the few that it left.
-BY_HAND = [("crates/collapsing/proofs/collapse_ready/Proof.antt", "room_for", "room_for_lem")]
+BY_HAND = [
+    ("crates/collapsing/proofs/collapse_ready/Proof.antt", "room_for", "room_for_lem"),
+    ("crates/collapsing/proofs/Grouped.antt", "roomFor", "room_for"),
+    ("crates/formed/proofs/well_formed/Proof.antt", "roomFor", "room_for"),
+]
 KNOWN_WORDS = set("length take drop map reverse sum filter all any set sets cond suc zero min max not refl sym append concat head tail".split())
 
 
@@ -156,16 +160,18 @@ def plan():
 
 
 def turned(text, new, fields, stay, comment, lemmas=()):
-    """text with its names respelled; after a point only fields. lemmas: names that are a field's too, but a lemma's in this file."""
+    """text with its names respelled; after a point only fields, or what a module's alias brings. lemmas: names that are a field's too,
+    but a lemma's in this file."""
+    aliases = set(re.findall(r"^use \S+ as (\w[\w-]*)$", text, re.M)) | {m.split(".")[-1] for m in re.findall(r"^use ([\w.+-]+)$", text, re.M)}
+    aliases -= {"goal", "tie"}
     out, at = [], 0
     for m in TOKEN.finditer(text):
         word = m.group()
         if word not in new or word in stay:
             continue
         before = text[m.start() - 1] if m.start() else " "
-        if before == ".":
-            if word not in fields:
-                continue
+        if before == "." and word not in fields and not re.search(r"(?<![\w.])(" + "|".join(aliases or ["(?!)"]) + r")\.$", text[: m.start()][-60:]):
+            continue
         start = text.rfind("\n", 0, m.start()) + 1
         mark = text.find(comment, start, m.start())
         if mark >= 0 and not re.search(r"[a-z][A-Z]", word):
@@ -199,7 +205,7 @@ def main():
                 f.write(words)
     for path in ["README.md"] + ["docs/" + n for n in sorted(os.listdir("docs")) if n.endswith(".md")]:
         text = read(path)
-        words = re.sub(r"`([^`\n]+)`", lambda m: "`" + new.get(m.group(1), m.group(1)) + "`", text)
+        words = re.sub(r"`([^`\n]+)`", lambda m: "`" + code.get(m.group(1), m.group(1)) + "`", text)
         if words != text:
             with open(path, "w", encoding="utf-8") as f:
                 f.write(words)

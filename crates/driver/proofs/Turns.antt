@@ -28,7 +28,7 @@ use Rattle.choosing.specs.Scan.{next_group}
 use Rattle.choosing.specs.Search.{Front}
 use Rattle.driver.specs.Drive.{Run, ran, or_else, drive_for}
 use Rattle.driver.specs.Turn.{group_run}
-use Rattle.driver.specs.Outcome.{Outcome, outcome, refused, holding_run}
+use Rattle.driver.specs.Outcome.{outcome, refused, holding_run}
 use Rattle.choosing.proofs.Trying.{numbers_back}
 
 module _ (l : Lent) (letters : List ℕ) (c : Counts) (u : Used) (sound : Sound l letters c u) where

@@ -39,8 +39,8 @@ shape_of-members-then-n-ne0 c = c.try_group-n.auto.members ∙ c.loop-c.invarian
 pub returns-then-n-ne0 : goal.returns-then-n-ne0
 returns-then-n-ne0 c =
     let step : Step c.loop-c.above (heads_of (graph_of c.args.nodes.now c.args.text.now c.args.links.now c.args.c) c.args.v) c.next_head-u.result =
-      let a = c.args in
-      next-step c.loop-c.above c.next_head-u.result (heads_sorted (graph_of a.nodes.now a.text.now a.links.now a.c) a.v) c.next_head-u.ensures c.if-u-eq0.false
+    let a = c.args in
+    next-step c.loop-c.above c.next_head-u.result (heads_sorted (graph_of a.nodes.now a.text.now a.links.now a.c) a.v) c.next_head-u.ensures c.if-u-eq0.false
     in
     let a = c.args in
     let g : Graph = graph_of a.nodes.now a.text.now a.links.now a.c in
@@ -50,16 +50,16 @@ returns-then-n-ne0 c =
 pub loop-c-smaller : goal.loop-c-smaller
 loop-c-smaller c =
     let step : Step c.loop-c.above (heads_of (graph_of c.args.nodes.now c.args.text.now c.args.links.now c.args.c) c.args.v) c.next_head-u.result =
-      let a = c.args in
-      next-step c.loop-c.above c.next_head-u.result (heads_sorted (graph_of a.nodes.now a.text.now a.links.now a.c) a.v) c.next_head-u.ensures c.if-u-eq0.false
+    let a = c.args in
+    next-step c.loop-c.above c.next_head-u.result (heads_sorted (graph_of a.nodes.now a.text.now a.links.now a.c) a.v) c.next_head-u.ensures c.if-u-eq0.false
     in
     let s = step in omega (arith, ap length s.rest)
 
 pub loop-c-preserved : goal.loop-c-preserved
 loop-c-preserved c =
     let step : Step c.loop-c.above (heads_of (graph_of c.args.nodes.now c.args.text.now c.args.links.now c.args.c) c.args.v) c.next_head-u.result =
-      let a = c.args in
-      next-step c.loop-c.above c.next_head-u.result (heads_sorted (graph_of a.nodes.now a.text.now a.links.now a.c) a.v) c.next_head-u.ensures c.if-u-eq0.false
+    let a = c.args in
+    next-step c.loop-c.above c.next_head-u.result (heads_sorted (graph_of a.nodes.now a.text.now a.links.now a.c) a.v) c.next_head-u.ensures c.if-u-eq0.false
     in
     let a = c.args in
     let g : Graph = graph_of a.nodes.now a.text.now a.links.now a.c in

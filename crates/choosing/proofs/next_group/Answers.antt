@@ -42,8 +42,8 @@ shape_of-members-then-n-ne0 c = c.group_of-n.auto.members ∙ c.loop-c.invariant
 pub returns-then-n-ne0 : goal.returns-then-n-ne0
 returns-then-n-ne0 c =
     let step : Step c.loop-c.above (scan_order (nodes_of c.args.c.nodes c.args.nodes.now)) c.next_scan-v.result =
-      let a = c.args in
-      next-step c.loop-c.above c.next_scan-v.result (scan_sorted (nodes_of a.c.nodes a.nodes.now)) c.next_scan-v.ensures c.if-v-eq0.false
+    let a = c.args in
+    next-step c.loop-c.above c.next_scan-v.result (scan_sorted (nodes_of a.c.nodes a.nodes.now)) c.next_scan-v.ensures c.if-v-eq0.false
     in
     let a = c.args in
     let g : Graph = graph_of a.nodes.now a.text.now a.links.now a.c in
@@ -53,16 +53,16 @@ returns-then-n-ne0 c =
 pub loop-c-smaller : goal.loop-c-smaller
 loop-c-smaller c =
     let step : Step c.loop-c.above (scan_order (nodes_of c.args.c.nodes c.args.nodes.now)) c.next_scan-v.result =
-      let a = c.args in
-      next-step c.loop-c.above c.next_scan-v.result (scan_sorted (nodes_of a.c.nodes a.nodes.now)) c.next_scan-v.ensures c.if-v-eq0.false
+    let a = c.args in
+    next-step c.loop-c.above c.next_scan-v.result (scan_sorted (nodes_of a.c.nodes a.nodes.now)) c.next_scan-v.ensures c.if-v-eq0.false
     in
     let s = step in omega (arith, ap length s.rest)
 
 pub loop-c-preserved : goal.loop-c-preserved
 loop-c-preserved c =
     let step : Step c.loop-c.above (scan_order (nodes_of c.args.c.nodes c.args.nodes.now)) c.next_scan-v.result =
-      let a = c.args in
-      next-step c.loop-c.above c.next_scan-v.result (scan_sorted (nodes_of a.c.nodes a.nodes.now)) c.next_scan-v.ensures c.if-v-eq0.false
+    let a = c.args in
+    next-step c.loop-c.above c.next_scan-v.result (scan_sorted (nodes_of a.c.nodes a.nodes.now)) c.next_scan-v.ensures c.if-v-eq0.false
     in
     let a = c.args in
     let g : Graph = graph_of a.nodes.now a.text.now a.links.now a.c in

@@ -23,16 +23,16 @@ returns-then-members-n c =
 pub slice_bounds-must_collapse-end-2 : goal.slice_bounds-must_collapse-end-2
 slice_bounds-must_collapse-end-2 c =
     let size : c.count_of_key-n.result ≡ length (take c.count_of_key-n.result c.write_group.new.members) =
-      let a = c.args in
-      sym (written-size (graph_of a.nodes.now a.text.now a.links.now a.c) a.v a.u a.members.now _ c.count_of_key-n.result c.write_group.result c.write_group.ensures c.count_of_key-n.ensures c.if-members-n.false)
+    let a = c.args in
+    sym (written-size (graph_of a.nodes.now a.text.now a.links.now a.c) a.v a.u a.members.now _ c.count_of_key-n.result c.write_group.result c.write_group.ensures c.count_of_key-n.ensures c.if-members-n.false)
     in
     size
 
 pub must_collapse-requires : goal.must_collapse-requires
 must_collapse-requires c =
     let size : c.count_of_key-n.result ≡ length (take c.count_of_key-n.result c.write_group.new.members) =
-      let a = c.args in
-      sym (written-size (graph_of a.nodes.now a.text.now a.links.now a.c) a.v a.u a.members.now _ c.count_of_key-n.result c.write_group.result c.write_group.ensures c.count_of_key-n.ensures c.if-members-n.false)
+    let a = c.args in
+    sym (written-size (graph_of a.nodes.now a.text.now a.links.now a.c) a.v a.u a.members.now _ c.count_of_key-n.result c.write_group.result c.write_group.ensures c.count_of_key-n.ensures c.if-members-n.false)
     in
     let a = c.args in
     (formed_readable a.nodes.now a.text.now a.links.now a.c c.requires.0, omega (arith, size, c.if-n-lt2.false))
@@ -40,10 +40,10 @@ must_collapse-requires c =
 pub returns-then-must_collapse : goal.returns-then-must_collapse
 returns-then-must_collapse c =
     let tested : let g = graph_of c.args.nodes.now c.args.text.now c.args.links.now c.args.c in must_collapse g c.args.protected.now (group_of g (right_of g c.args.v) c.args.u) ≡ c.must_collapse.result =
-      let a = c.args in
-      let g : Graph = graph_of a.nodes.now a.text.now a.links.now a.c in
-      sym (ap (must_collapse g a.protected.now) (written_back g a.v a.u a.members.now _ c.count_of_key-n.result c.write_group.result c.write_group.ensures c.count_of_key-n.ensures c.if-members-n.false))
-      ∙ sym c.must_collapse.ensures
+    let a = c.args in
+    let g : Graph = graph_of a.nodes.now a.text.now a.links.now a.c in
+    sym (ap (must_collapse g a.protected.now) (written_back g a.v a.u a.members.now _ c.count_of_key-n.result c.write_group.result c.write_group.ensures c.count_of_key-n.ensures c.if-members-n.false))
+    ∙ sym c.must_collapse.ensures
     in
     let a = c.args in
     tried_taken (graph_of a.nodes.now a.text.now a.links.now a.c) a.v a.u a.members.now _ c.count_of_key-n.result c.write_group.result c.write_group.ensures c.count_of_key-n.ensures c.if-members-n.false a.protected.now (tested ∙ c.if-must_collapse.true)
@@ -51,10 +51,10 @@ returns-then-must_collapse c =
 pub returns : goal.returns
 returns c =
     let tested : let g = graph_of c.args.nodes.now c.args.text.now c.args.links.now c.args.c in must_collapse g c.args.protected.now (group_of g (right_of g c.args.v) c.args.u) ≡ c.must_collapse.result =
-      let a = c.args in
-      let g : Graph = graph_of a.nodes.now a.text.now a.links.now a.c in
-      sym (ap (must_collapse g a.protected.now) (written_back g a.v a.u a.members.now _ c.count_of_key-n.result c.write_group.result c.write_group.ensures c.count_of_key-n.ensures c.if-members-n.false))
-      ∙ sym c.must_collapse.ensures
+    let a = c.args in
+    let g : Graph = graph_of a.nodes.now a.text.now a.links.now a.c in
+    sym (ap (must_collapse g a.protected.now) (written_back g a.v a.u a.members.now _ c.count_of_key-n.result c.write_group.result c.write_group.ensures c.count_of_key-n.ensures c.if-members-n.false))
+    ∙ sym c.must_collapse.ensures
     in
     let a = c.args in
     tried-not (graph_of a.nodes.now a.text.now a.links.now a.c) a.v a.u a.protected.now (tested ∙ c.if-must_collapse.false)

@@ -15,11 +15,11 @@ prefix_len-p-requires c =
 pub returns-then-k-ne0 : goal.returns-then-k-ne0
 returns-then-k-ne0 c =
     let sound : Sound ((lent c.args.nodes.now c.args.links.now c.args.rules.now c.args.steps.now)) c.args.text.now c.args.c c.args.u =
-      record { graph = c.requires.c_value.0; events = c.requires.u_value.0; ids = c.requires.c_value.1; keys = c.requires.u_value.1 }
+    record { graph = c.requires.c_value.0; events = c.requires.u_value.0; ids = c.requires.c_value.1; keys = c.requires.u_value.1 }
     in
     let answer : let ms = handles_of c.args.members.now in outcome c.collapse_group-k.result (lent c.collapse_group-k.new.nodes c.collapse_group-k.new.links c.collapse_group-k.new.rules c.collapse_group-k.new.steps) ≡ group_outcome ((lent c.args.nodes.now c.args.links.now c.args.rules.now c.args.steps.now)) c.args.text.now c.args.c c.args.u ms (length (group_prefix (state_in ((lent c.args.nodes.now c.args.links.now c.args.rules.now c.args.steps.now)) c.args.text.now c.args.c c.args.u).graph ms)) =
-      let a = c.args in
-      c.collapse_group-k.ensures ∙ ap (group_outcome ((lent c.args.nodes.now c.args.links.now c.args.rules.now c.args.steps.now)) a.text.now a.c a.u (handles_of a.members.now)) c.prefix_len-p.ensures
+    let a = c.args in
+    c.collapse_group-k.ensures ∙ ap (group_outcome ((lent c.args.nodes.now c.args.links.now c.args.rules.now c.args.steps.now)) a.text.now a.c a.u (handles_of a.members.now)) c.prefix_len-p.ensures
     in
     let a = c.args in
     rw c.refuse.ensures (whole_refused ((lent c.args.nodes.now c.args.links.now c.args.rules.now c.args.steps.now)) a.text.now a.c a.u (sound) (handles_of a.members.now) c.collapse_group-k.result _ (answer) c.if-k-ne0.true)
@@ -27,11 +27,11 @@ returns-then-k-ne0 c =
 pub returns : goal.returns
 returns c =
     let sound : Sound ((lent c.args.nodes.now c.args.links.now c.args.rules.now c.args.steps.now)) c.args.text.now c.args.c c.args.u =
-      record { graph = c.requires.c_value.0; events = c.requires.u_value.0; ids = c.requires.c_value.1; keys = c.requires.u_value.1 }
+    record { graph = c.requires.c_value.0; events = c.requires.u_value.0; ids = c.requires.c_value.1; keys = c.requires.u_value.1 }
     in
     let answer : let ms = handles_of c.args.members.now in outcome c.collapse_group-k.result (lent c.collapse_group-k.new.nodes c.collapse_group-k.new.links c.collapse_group-k.new.rules c.collapse_group-k.new.steps) ≡ group_outcome ((lent c.args.nodes.now c.args.links.now c.args.rules.now c.args.steps.now)) c.args.text.now c.args.c c.args.u ms (length (group_prefix (state_in ((lent c.args.nodes.now c.args.links.now c.args.rules.now c.args.steps.now)) c.args.text.now c.args.c c.args.u).graph ms)) =
-      let a = c.args in
-      c.collapse_group-k.ensures ∙ ap (group_outcome ((lent c.args.nodes.now c.args.links.now c.args.rules.now c.args.steps.now)) a.text.now a.c a.u (handles_of a.members.now)) c.prefix_len-p.ensures
+    let a = c.args in
+    c.collapse_group-k.ensures ∙ ap (group_outcome ((lent c.args.nodes.now c.args.links.now c.args.rules.now c.args.steps.now)) a.text.now a.c a.u (handles_of a.members.now)) c.prefix_len-p.ensures
     in
     let a = c.args in
     whole_made ((lent c.args.nodes.now c.args.links.now c.args.rules.now c.args.steps.now)) a.text.now a.c a.u (sound) (handles_of a.members.now) c.collapse_group-k.result _ (answer) c.if-k-ne0.false

@@ -42,8 +42,8 @@ returns-then-t-eq0 c =
 pub overflow_add-made : goal.overflow_add-made
 overflow_add-made c =
     let again : Going ((lent c.args.nodes.now c.args.links.now c.args.rules.now c.args.steps.now)) c.args.text.now c.args.c c.args.u c.args.protected.now (lent c.turn-t.new.nodes c.turn-t.new.links c.turn-t.new.rules c.turn-t.new.steps) c.turn-t.result.counts c.turn-t.result.used (c.loop-counts.made + 1) =
-      let a = c.args in
-      going_again ((lent c.args.nodes.now c.args.links.now c.args.rules.now c.args.steps.now)) a.text.now a.c a.u a.protected.now ((lent c.loop-counts.nodes c.loop-counts.links c.loop-counts.rules c.loop-counts.steps)) c.loop-counts.counts c.loop-counts.used c.loop-counts.made c.loop-counts.invariant.1 c.turn-t.result _ c.turn-t.ensures c.if-t-eq0.false
+    let a = c.args in
+    going_again ((lent c.args.nodes.now c.args.links.now c.args.rules.now c.args.steps.now)) a.text.now a.c a.u a.protected.now ((lent c.loop-counts.nodes c.loop-counts.links c.loop-counts.rules c.loop-counts.steps)) c.loop-counts.counts c.loop-counts.used c.loop-counts.made c.loop-counts.invariant.1 c.turn-t.result _ c.turn-t.ensures c.if-t-eq0.false
     in
     let a = c.args in
     omega (arith, (again).enough, live-fits a.nodes.now a.text.now a.links.now a.c c.requires.c_value.0)
@@ -56,7 +56,7 @@ loop-counts-smaller c =
 pub loop-counts-preserved : goal.loop-counts-preserved
 loop-counts-preserved c =
     let again : Going ((lent c.args.nodes.now c.args.links.now c.args.rules.now c.args.steps.now)) c.args.text.now c.args.c c.args.u c.args.protected.now (lent c.turn-t.new.nodes c.turn-t.new.links c.turn-t.new.rules c.turn-t.new.steps) c.turn-t.result.counts c.turn-t.result.used (c.loop-counts.made + 1) =
-      let a = c.args in
-      going_again ((lent c.args.nodes.now c.args.links.now c.args.rules.now c.args.steps.now)) a.text.now a.c a.u a.protected.now ((lent c.loop-counts.nodes c.loop-counts.links c.loop-counts.rules c.loop-counts.steps)) c.loop-counts.counts c.loop-counts.used c.loop-counts.made c.loop-counts.invariant.1 c.turn-t.result _ c.turn-t.ensures c.if-t-eq0.false
+    let a = c.args in
+    going_again ((lent c.args.nodes.now c.args.links.now c.args.rules.now c.args.steps.now)) a.text.now a.c a.u a.protected.now ((lent c.loop-counts.nodes c.loop-counts.links c.loop-counts.rules c.loop-counts.steps)) c.loop-counts.counts c.loop-counts.used c.loop-counts.made c.loop-counts.invariant.1 c.turn-t.result _ c.turn-t.ensures c.if-t-eq0.false
     in
     (c.turn-t.auto.members ∙ c.loop-counts.invariant.0, again)
