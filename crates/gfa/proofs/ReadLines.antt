@@ -39,7 +39,7 @@ or_zero_r n m e = by (eqb n 0) refl e
 pub or_zero : (n m : ℕ) → n ≡ 0 → m ≡ 0 → or_number n m ≡ 0
 or_zero n m p q = rw (p, q)
 
-first-zero : (f : List ℕ → ℕ) (ps : List (List ℕ)) → first_number f ps ≡ 0 → {p : List ℕ} → Memᴰ p ps → f p ≡ 0
+first-zero : (f : List ℕ → ℕ) {p : List ℕ} (ps : List (List ℕ)) → first_number f ps ≡ 0 → Memᴰ p ps → f p ≡ 0
 first-zero f ps e (Memᴰ.head {x} {xs} q) = ap f q ∙ or_zero_l (f x) (first_number f xs) e
 first-zero f ps e (Memᴰ.tail {x} {xs} m) = first-zero f xs (or_zero_r (f x) (first_number f xs) e) m
 

@@ -112,8 +112,8 @@ links_stay : (g : Graph) (ks : List (List ℕ)) {r : Link} → Memᴰ r g.links 
 links_stay g [] m = m
 links_stay g (k ∷ ks) m = links_stay (more_link g k) ks (stays (edge_of k) g.links m)
 
-pub links_held : (g : Graph) (ks : List (List ℕ)) {k : List ℕ} → Memᴰ k ks → (r : Link) × Memᴰ r (links_into g ks).links × (joins (edge_of k) r ≡ true)
-links_held g ks {k} (Memᴰ.head {x} {xs} q) =
+pub links_held : {k : List ℕ} (g : Graph) (ks : List (List ℕ)) → Memᴰ k ks → (r : Link) × Memᴰ r (links_into g ks).links × (joins (edge_of k) r ≡ true)
+links_held {k} g ks (Memᴰ.head {x} {xs} q) =
     let f = there (edge_of x) g.links in
     (f.0, links_stay (more_link g x) xs f.1, ap (λ (j : List ℕ). joins (edge_of j) f.0) q ∙ f.2)
 links_held g ks (Memᴰ.tail {x} {xs} m) = links_held (more_link g x) xs m

@@ -17,7 +17,7 @@ use Rattle.text.specs.Pieces.{lines_of}
 use Rattle.text.specs.Fields.{line_number, handles_said}
 use Rattle.reading.specs.Reading.{Store, counts_of, fits_in, going, goes_on, pass_one_line, pass_two_line, pass, empty, read_text}
 use Rattle.gfa.specs.Accepted.{Accepted}
-use Rattle.gfa.specs.Narrowings.{segments_into, graph_said, names_once, names_declared}
+use Rattle.gfa.specs.Narrowings.{segments_into, graph_said}
 use Rattle.gfa.proofs.ReadGrowth.{segment_lines, link_lines, fits_less, links_less, links-nodes, links-letters, pass-before, goes_same}
 use Rattle.gfa.proofs.ReadOne.{Ones, one-pass, pass-one}
 use Rattle.gfa.proofs.ReadTwo.{Twos, two-pass, pass-two}

@@ -1,7 +1,7 @@
 -- GFA 1 lines, small ones.
 use mathlib.Core.Path.{◌≡◌, refl}
-use mathlib.Core.Bool.{Bool, true, false}
-use mathlib.Core.List.{List, [], ◌∷◌, map}
+use mathlib.Core.Bool.{true, false}
+use mathlib.Core.List.{[], ◌∷◌, map}
 use Rattle.letters.specs.Letters.{complement_of, is_letter}
 use Rattle.handle.specs.Handle.{flip, before}
 use Rattle.handle.specs.Edge.{written}

@@ -25,7 +25,7 @@ use Rattle.text.specs.Names.{is_name, name_id}
 use Rattle.text.specs.Steps.{sign_dir}
 use Rattle.text.specs.Fields.{edge_of, handles_said}
 use Rattle.writing.specs.Marks.{sign_of}
-use Rattle.gfa.specs.Gfa1.{between, is_one, is_graphic, is_gfa_name, is_sequence, is_orientation, is_segment, is_link, is_gfa_line, is_alphabetic}
+use Rattle.gfa.specs.Gfa1.{is_one, is_graphic, is_gfa_name, is_sequence, is_orientation, is_segment, is_link, is_gfa_line, is_alphabetic}
 use Rattle.gfa.specs.Narrowings.{narrow_line}
 
 -- digits and letters are graphic

@@ -55,7 +55,7 @@ module _ (f : Handle → List ℕ) where
   placed-unmarked at (h ∷ hs) = placed-unmarked (at + length (f h)) hs
 
   -- each has its node, unmarked
-  placed_has : (at : ℕ) (hs : List Handle) {h : Handle} → Memᴰ h hs → (r : Node) × Memᴰ r (placed f at hs) × (r.id ≡ id_of h) × (r.mark ≡ 0)
+  placed_has : {h : Handle} (at : ℕ) (hs : List Handle) → Memᴰ h hs → (r : Node) × Memᴰ r (placed f at hs) × (r.id ≡ id_of h) × (r.mark ≡ 0)
   placed_has at hs (Memᴰ.head {x} {xs} e) = (node (id_of x) at (length (f x)) 0, Memᴰ.head refl, ap id_of (sym e), refl)
   placed_has at hs (Memᴰ.tail {x} {xs} m) = let p = placed_has (at + length (f x)) xs m in (p.0, Memᴰ.tail p.1, p.2, p.3)
 

@@ -3,7 +3,7 @@ use Rattle.std.specs.Prelude.{ℕ, Bool, true, false, cond, not, ◌&&◌, ◌||
 use Rattle.kit.specs.Decimal.{is_digit}
 use Rattle.kit.specs.Loops.{all, any}
 use Rattle.text.specs.Bytes.{bytes}
-use Rattle.text.specs.Pieces.{fields_of, field, is_line}
+use Rattle.text.specs.Pieces.{fields_of, is_line}
 use Rattle.text.specs.Steps.{is_sign, is_arrow, path_steps, step_sign, step_name, walk_steps}
 
 abbrev pub between : ℕ → ℕ → ℕ → Bool

@@ -1,6 +1,6 @@
 -- What a text says by GFA 1: its segments, links, paths and walks, by names.
-use Rattle.std.specs.Prelude.{ℕ, List, [], ◌∷◌, map, drop, get_or}
-use Rattle.kit.specs.Loops.{keep, lines}
+use Rattle.std.specs.Prelude.{ℕ, List, map, drop, get_or}
+use Rattle.kit.specs.Loops.{keep}
 use Rattle.text.specs.Pieces.{lines_of, field, is_line}
 use Rattle.text.specs.Steps.{sign_dir, arrow_dir, path_steps, step_sign, step_name, walk_steps}
 

@@ -68,7 +68,8 @@ print_table-requires c =
       sym c.old_number-number.ensures ∙ c.if-number-ne0.false
     in
     let a = c.args in
-    asked a.nodes.now a.text.now a.links.now a.c a.rules.now a.steps.now a.u a.out.now (zero)
+    let k = asked a.nodes.now a.text.now a.links.now a.c a.rules.now a.steps.now a.u a.out.now zero in
+    record { nodes_in_bounds = k.0; nodes_value = k.1; u_len_bound = k.2 }
 
 pub returns : goal.returns
 returns c =
