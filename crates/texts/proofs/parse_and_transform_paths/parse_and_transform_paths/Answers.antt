@@ -2,7 +2,6 @@ use Prim.Native.Nat.{ℕ}
 use mathlib.Core.Path.{◌≡◌, sym, ◌∙◌}
 use mathlib.Core.Bool.{true, cond, not}
 use mathlib.Core.List.{[], List}
-use borrow.Author.Rules.{rules}
 use borrow.Author.Tests.{ne_eqb}
 use lib.Dec.{eqb}
 use Rattle.store.specs.declared.Counts.{Counts}
@@ -44,7 +43,7 @@ returns-then-number-ne0 c =
 pub print_paths-requires : goal.print_paths-requires
 print_paths-requires c =
     let zero : old_number c.args.nodes.now c.args.letters.now c.args.links.now c.args.c c.args.rules.now c.args.steps.now c.args.u ≡ 0 =
-      sym c.old_number-number.ensures ∙ c.if-number-ne0.false
+    sym c.old_number-number.ensures ∙ c.if-number-ne0.false
     in
     let a = c.args in
     ((fits a.text.now a.nodes.now a.letters.now a.links.now a.c a.rules.now a.steps.now a.u a.out.now (zero)).node_room, table a.text.now a.nodes.now a.letters.now a.links.now a.c a.rules.now a.steps.now a.u a.out.now (zero))
@@ -52,7 +51,7 @@ print_paths-requires c =
 pub returns : goal.returns
 returns c =
     let zero : old_number c.args.nodes.now c.args.letters.now c.args.links.now c.args.c c.args.rules.now c.args.steps.now c.args.u ≡ 0 =
-      sym c.old_number-number.ensures ∙ c.if-number-ne0.false
+    sym c.old_number-number.ensures ∙ c.if-number-ne0.false
     in
     let a = c.args in
     c.print_paths.ensures ∙ rest a.text.now a.nodes.now a.letters.now a.links.now a.c a.rules.now a.steps.now a.u a.out.now (zero)

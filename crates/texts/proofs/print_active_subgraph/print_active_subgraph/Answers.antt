@@ -29,7 +29,7 @@ returns-then-number-ne0 c =
 pub print_graph-requires : goal.print_graph-requires
 print_graph-requires c =
     let zero : graph_number c.args.nodes.now c.args.text.now c.args.links.now c.args.c ≡ 0 =
-      sym c.graph_number-number.ensures ∙ c.if-number-ne0.false
+    sym c.graph_number-number.ensures ∙ c.if-number-ne0.false
     in
     let a = c.args in
     (number-zero a.nodes.now a.text.now a.links.now a.c (zero)).0
@@ -37,7 +37,7 @@ print_graph-requires c =
 pub returns : goal.returns
 returns c =
     let zero : graph_number c.args.nodes.now c.args.text.now c.args.links.now c.args.c ≡ 0 =
-      sym c.graph_number-number.ensures ∙ c.if-number-ne0.false
+    sym c.graph_number-number.ensures ∙ c.if-number-ne0.false
     in
     let a = c.args in
     c.print_graph.ensures ∙ prints a.nodes.now a.text.now a.links.now a.c a.out.now (zero)

@@ -2,7 +2,6 @@ use Prim.Native.Nat.{ℕ, ◌*◌, ◌≤◌, ◌<◌, ◌^◌}
 use mathlib.Core.Path.{◌≡◌, sym, ap, ◌∙◌}
 use mathlib.Core.Bool.{true}
 use mathlib.Core.List.{[], List}
-use borrow.Author.Rules.{rules}
 use borrow.Author.Tests.{ne_eqb}
 use lib.ListN.{length}
 use Rattle.kit.specs.Loops.{all}
@@ -65,16 +64,16 @@ returns-then-number-ne0 c =
 pub print_table-requires : goal.print_table-requires
 print_table-requires c =
     let zero : old_number c.args.nodes.now c.args.text.now c.args.links.now c.args.c c.args.rules.now c.args.steps.now c.args.u ≡ 0 =
-      sym c.old_number-number.ensures ∙ c.if-number-ne0.false
+    sym c.old_number-number.ensures ∙ c.if-number-ne0.false
     in
     let a = c.args in
     let k = asked a.nodes.now a.text.now a.links.now a.c a.rules.now a.steps.now a.u a.out.now zero in
-    record { nodes_in_bounds = k.0; nodes_value = k.1; u_len_bound = k.2 }
+    record { nodes_in_bounds = k.0; nodes_value = k.1.0; u_len_bound = k.1.1 }
 
 pub returns : goal.returns
 returns c =
     let zero : old_number c.args.nodes.now c.args.text.now c.args.links.now c.args.c c.args.rules.now c.args.steps.now c.args.u ≡ 0 =
-      sym c.old_number-number.ensures ∙ c.if-number-ne0.false
+    sym c.old_number-number.ensures ∙ c.if-number-ne0.false
     in
     let a = c.args in
     c.print_table.ensures ∙ prints a.nodes.now a.text.now a.links.now a.c a.rules.now a.steps.now a.u a.out.now (zero)
