@@ -60,10 +60,10 @@ returns-then-number-ne0 c =
 pub live_node-requires : goal.live_node-requires
 live_node-requires c =
     let zero : graph_number c.args.nodes.now c.args.text.now c.args.links.now c.args.c ≡ 0 =
-      sym c.graph_number-number.ensures ∙ c.if-number-ne0.false
+    sym c.graph_number-number.ensures ∙ c.if-number-ne0.false
     in
     let formed : well_formed c.args.nodes.now c.args.text.now c.args.links.now c.args.c ≡ true =
-      let a = c.args in (number-zero a.nodes.now a.text.now a.links.now a.c (zero)).0
+    let a = c.args in (number-zero a.nodes.now a.text.now a.links.now a.c (zero)).0
     in
     let a = c.args in
     (formed_room a.nodes.now a.text.now a.links.now a.c (formed)).node_room
@@ -71,10 +71,10 @@ live_node-requires c =
 pub returns-then-not-live_node : goal.returns-then-not-live_node
 returns-then-not-live_node c =
     let zero : graph_number c.args.nodes.now c.args.text.now c.args.links.now c.args.c ≡ 0 =
-      sym c.graph_number-number.ensures ∙ c.if-number-ne0.false
+    sym c.graph_number-number.ensures ∙ c.if-number-ne0.false
     in
     let looked : live_node (id_of (handle c.args.v)) (nodes_of c.args.c.nodes c.args.nodes.now) ≡ c.live_node.result =
-      let a = c.args in sym (c.live_node.ensures ∙ ap (λ (k : ℕ). live_node k (nodes_of a.c.nodes a.nodes.now)) c.id.ensures)
+    let a = c.args in sym (c.live_node.ensures ∙ ap (λ (k : ℕ). live_node k (nodes_of a.c.nodes a.nodes.now)) c.id.ensures)
     in
     let a = c.args in
     ap (λ (r : Branch). outcome r a.members.now a.ends.now) c.refuse-then-not-live_node.ensures
@@ -83,10 +83,10 @@ returns-then-not-live_node c =
 pub count_right-requires : goal.count_right-requires
 count_right-requires c =
     let zero : graph_number c.args.nodes.now c.args.text.now c.args.links.now c.args.c ≡ 0 =
-      sym c.graph_number-number.ensures ∙ c.if-number-ne0.false
+    sym c.graph_number-number.ensures ∙ c.if-number-ne0.false
     in
     let formed : well_formed c.args.nodes.now c.args.text.now c.args.links.now c.args.c ≡ true =
-      let a = c.args in (number-zero a.nodes.now a.text.now a.links.now a.c (zero)).0
+    let a = c.args in (number-zero a.nodes.now a.text.now a.links.now a.c (zero)).0
     in
     let a = c.args in
     let r = formed_room a.nodes.now a.text.now a.links.now a.c (formed) in
@@ -95,10 +95,10 @@ count_right-requires c =
 pub returns-then-members-count_right : goal.returns-then-members-count_right
 returns-then-members-count_right c =
     let zero : graph_number c.args.nodes.now c.args.text.now c.args.links.now c.args.c ≡ 0 =
-      sym c.graph_number-number.ensures ∙ c.if-number-ne0.false
+    sym c.graph_number-number.ensures ∙ c.if-number-ne0.false
     in
     let looked : live_node (id_of (handle c.args.v)) (nodes_of c.args.c.nodes c.args.nodes.now) ≡ c.live_node.result =
-      let a = c.args in sym (c.live_node.ensures ∙ ap (λ (k : ℕ). live_node k (nodes_of a.c.nodes a.nodes.now)) c.id.ensures)
+    let a = c.args in sym (c.live_node.ensures ∙ ap (λ (k : ℕ). live_node k (nodes_of a.c.nodes a.nodes.now)) c.id.ensures)
     in
     let a = c.args in
     ap (λ (r : Branch). outcome r a.members.now a.ends.now) c.refuse-then-members-count_right.ensures
@@ -107,20 +107,20 @@ returns-then-members-count_right c =
 pub count_groups-count-requires : goal.count_groups-count-requires
 count_groups-count-requires c =
     let zero : graph_number c.args.nodes.now c.args.text.now c.args.links.now c.args.c ≡ 0 =
-      sym c.graph_number-number.ensures ∙ c.if-number-ne0.false
+    sym c.graph_number-number.ensures ∙ c.if-number-ne0.false
     in
     let formed : well_formed c.args.nodes.now c.args.text.now c.args.links.now c.args.c ≡ true =
-      let a = c.args in (number-zero a.nodes.now a.text.now a.links.now a.c (zero)).0
+    let a = c.args in (number-zero a.nodes.now a.text.now a.links.now a.c (zero)).0
     in
     formed
 
 pub returns-then-ends-count : goal.returns-then-ends-count
 returns-then-ends-count c =
     let zero : graph_number c.args.nodes.now c.args.text.now c.args.links.now c.args.c ≡ 0 =
-      sym c.graph_number-number.ensures ∙ c.if-number-ne0.false
+    sym c.graph_number-number.ensures ∙ c.if-number-ne0.false
     in
     let looked : live_node (id_of (handle c.args.v)) (nodes_of c.args.c.nodes c.args.nodes.now) ≡ c.live_node.result =
-      let a = c.args in sym (c.live_node.ensures ∙ ap (λ (k : ℕ). live_node k (nodes_of a.c.nodes a.nodes.now)) c.id.ensures)
+    let a = c.args in sym (c.live_node.ensures ∙ ap (λ (k : ℕ). live_node k (nodes_of a.c.nodes a.nodes.now)) c.id.ensures)
     in
     let a = c.args in
     ap (λ (r : Branch). outcome r a.members.now a.ends.now) c.refuse-then-ends-count.ensures
@@ -129,20 +129,20 @@ returns-then-ends-count c =
 pub write_groups-requires : goal.write_groups-requires
 write_groups-requires c =
     let zero : graph_number c.args.nodes.now c.args.text.now c.args.links.now c.args.c ≡ 0 =
-      sym c.graph_number-number.ensures ∙ c.if-number-ne0.false
+    sym c.graph_number-number.ensures ∙ c.if-number-ne0.false
     in
     let formed : well_formed c.args.nodes.now c.args.text.now c.args.links.now c.args.c ≡ true =
-      let a = c.args in (number-zero a.nodes.now a.text.now a.links.now a.c (zero)).0
+    let a = c.args in (number-zero a.nodes.now a.text.now a.links.now a.c (zero)).0
     in
     record { c_value = formed; v_in_bounds = (omega (arith, c.count_right.ensures), omega (arith, c.count_groups-count.ensures)) }
 
 pub returns : goal.returns
 returns c =
     let zero : graph_number c.args.nodes.now c.args.text.now c.args.links.now c.args.c ≡ 0 =
-      sym c.graph_number-number.ensures ∙ c.if-number-ne0.false
+    sym c.graph_number-number.ensures ∙ c.if-number-ne0.false
     in
     let looked : live_node (id_of (handle c.args.v)) (nodes_of c.args.c.nodes c.args.nodes.now) ≡ c.live_node.result =
-      let a = c.args in sym (c.live_node.ensures ∙ ap (λ (k : ℕ). live_node k (nodes_of a.c.nodes a.nodes.now)) c.id.ensures)
+    let a = c.args in sym (c.live_node.ensures ∙ ap (λ (k : ℕ). live_node k (nodes_of a.c.nodes a.nodes.now)) c.id.ensures)
     in
     let a = c.args in
     done a.nodes.now a.text.now a.links.now a.c a.v a.members.now a.ends.now (zero) (looked ∙ not-false _ c.if-not-live_node.false-raw) (omega (arith, c.count_right.ensures)) _ _ _ (omega (arith, c.count_groups-count.ensures)) c.count_groups-count.ensures c.write_groups.ensures.members_after c.write_groups.ensures.ends_after

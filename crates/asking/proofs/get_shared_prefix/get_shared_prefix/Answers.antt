@@ -28,18 +28,18 @@ pub returns-then-members-eq0 : goal.returns-then-members-eq0
 unfolding shared_prefix_outcome
 returns-then-members-eq0 c =
     let zero : graph_number c.args.nodes.now c.args.text.now c.args.links.now c.args.c ≡ 0 =
-      sym c.graph_number-number.ensures ∙ c.if-number-ne0.false
+    sym c.graph_number-number.ensures ∙ c.if-number-ne0.false
     in
     rw (zero, eq-eqb _ 0 c.if-members-eq0.true)
 
 pub members_live-requires : goal.members_live-requires
 members_live-requires c =
     let zero : graph_number c.args.nodes.now c.args.text.now c.args.links.now c.args.c ≡ 0 =
-      sym c.graph_number-number.ensures ∙ c.if-number-ne0.false
+    sym c.graph_number-number.ensures ∙ c.if-number-ne0.false
     in
     let readable : Readable c.args.nodes.now c.args.text.now c.args.c =
-      let a = c.args in
-      formed_readable a.nodes.now a.text.now a.links.now a.c (number-zero a.nodes.now a.text.now a.links.now a.c (zero)).0
+    let a = c.args in
+    formed_readable a.nodes.now a.text.now a.links.now a.c (number-zero a.nodes.now a.text.now a.links.now a.c (zero)).0
     in
     (readable).node_room
 
@@ -47,7 +47,7 @@ pub returns-then-not-members_live : goal.returns-then-not-members_live
 unfolding shared_prefix_outcome
 returns-then-not-members_live c =
     let zero : graph_number c.args.nodes.now c.args.text.now c.args.links.now c.args.c ≡ 0 =
-      sym c.graph_number-number.ensures ∙ c.if-number-ne0.false
+    sym c.graph_number-number.ensures ∙ c.if-number-ne0.false
     in
     rw (zero, ne_eqb _ 0 c.if-members-eq0.false, sym c.members_live.ensures ∙ not-true _ c.if-not-members_live.true-raw)
 
@@ -55,21 +55,21 @@ pub returns-then-not-members_once : goal.returns-then-not-members_once
 unfolding shared_prefix_outcome
 returns-then-not-members_once c =
     let zero : graph_number c.args.nodes.now c.args.text.now c.args.links.now c.args.c ≡ 0 =
-      sym c.graph_number-number.ensures ∙ c.if-number-ne0.false
+    sym c.graph_number-number.ensures ∙ c.if-number-ne0.false
     in
     let live : members_live (nodes_of c.args.c.nodes c.args.nodes.now) (handles_of c.args.members.now) ≡ true =
-      sym c.members_live.ensures ∙ not-false _ c.if-not-members_live.false-raw
+    sym c.members_live.ensures ∙ not-false _ c.if-not-members_live.false-raw
     in
     rw (zero, ne_eqb _ 0 c.if-members-eq0.false, live, sym c.members_once.ensures ∙ not-true _ c.if-not-members_once.true-raw)
 
 pub prefix_len-length-requires : goal.prefix_len-length-requires
 prefix_len-length-requires c =
     let zero : graph_number c.args.nodes.now c.args.text.now c.args.links.now c.args.c ≡ 0 =
-      sym c.graph_number-number.ensures ∙ c.if-number-ne0.false
+    sym c.graph_number-number.ensures ∙ c.if-number-ne0.false
     in
     let readable : Readable c.args.nodes.now c.args.text.now c.args.c =
-      let a = c.args in
-      formed_readable a.nodes.now a.text.now a.links.now a.c (number-zero a.nodes.now a.text.now a.links.now a.c (zero)).0
+    let a = c.args in
+    formed_readable a.nodes.now a.text.now a.links.now a.c (number-zero a.nodes.now a.text.now a.links.now a.c (zero)).0
     in
     (readable, omega arith)
 
@@ -77,24 +77,24 @@ pub returns-then-out-length : goal.returns-then-out-length
 unfolding shared_prefix_outcome
 returns-then-out-length c =
     let zero : graph_number c.args.nodes.now c.args.text.now c.args.links.now c.args.c ≡ 0 =
-      sym c.graph_number-number.ensures ∙ c.if-number-ne0.false
+    sym c.graph_number-number.ensures ∙ c.if-number-ne0.false
     in
     let live : members_live (nodes_of c.args.c.nodes c.args.nodes.now) (handles_of c.args.members.now) ≡ true =
-      sym c.members_live.ensures ∙ not-false _ c.if-not-members_live.false-raw
+    sym c.members_live.ensures ∙ not-false _ c.if-not-members_live.false-raw
     in
     let once : members_once (handles_of c.args.members.now) ≡ true =
-      sym c.members_once.ensures ∙ not-false _ c.if-not-members_once.false-raw
+    sym c.members_once.ensures ∙ not-false _ c.if-not-members_once.false-raw
     in
     rw (zero, ne_eqb _ 0 c.if-members-eq0.false, live, once, ← c.prefix_len-length.ensures, lt-ltb _ _ c.if-out-length.true)
 
 pub write_prefix-requires : goal.write_prefix-requires
 write_prefix-requires c =
     let zero : graph_number c.args.nodes.now c.args.text.now c.args.links.now c.args.c ≡ 0 =
-      sym c.graph_number-number.ensures ∙ c.if-number-ne0.false
+    sym c.graph_number-number.ensures ∙ c.if-number-ne0.false
     in
     let readable : Readable c.args.nodes.now c.args.text.now c.args.c =
-      let a = c.args in
-      formed_readable a.nodes.now a.text.now a.links.now a.c (number-zero a.nodes.now a.text.now a.links.now a.c (zero)).0
+    let a = c.args in
+    formed_readable a.nodes.now a.text.now a.links.now a.c (number-zero a.nodes.now a.text.now a.links.now a.c (zero)).0
     in
     let a = c.args in
     let e = c.prefix_len-length.ensures in
@@ -104,13 +104,13 @@ pub returns : goal.returns
 unfolding shared_prefix_outcome
 returns c =
     let zero : graph_number c.args.nodes.now c.args.text.now c.args.links.now c.args.c ≡ 0 =
-      sym c.graph_number-number.ensures ∙ c.if-number-ne0.false
+    sym c.graph_number-number.ensures ∙ c.if-number-ne0.false
     in
     let live : members_live (nodes_of c.args.c.nodes c.args.nodes.now) (handles_of c.args.members.now) ≡ true =
-      sym c.members_live.ensures ∙ not-false _ c.if-not-members_live.false-raw
+    sym c.members_live.ensures ∙ not-false _ c.if-not-members_live.false-raw
     in
     let once : members_once (handles_of c.args.members.now) ≡ true =
-      sym c.members_once.ensures ∙ not-false _ c.if-not-members_once.false-raw
+    sym c.members_once.ensures ∙ not-false _ c.if-not-members_once.false-raw
     in
     let a = c.args in
     rw (zero, ne_eqb _ 0 c.if-members-eq0.false, live, once, ← c.prefix_len-length.ensures, le-ltb _ _ c.if-out-length.false)

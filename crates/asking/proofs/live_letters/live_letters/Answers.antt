@@ -25,10 +25,10 @@ returns-then-number-ne0 c = let a = c.args in refused a.nodes.now a.text.now a.l
 pub live_letters-total-requires : goal.live_letters-total-requires
 live_letters-total-requires c =
     let zero : graph_number c.args.nodes.now c.args.text.now c.args.links.now c.args.c ≡ 0 =
-      sym c.graph_number-number.ensures ∙ c.if-number-ne0.false
+    sym c.graph_number-number.ensures ∙ c.if-number-ne0.false
     in
     let formed : well_formed c.args.nodes.now c.args.text.now c.args.links.now c.args.c ≡ true =
-      let a = c.args in (number-zero a.nodes.now a.text.now a.links.now a.c (zero)).0
+    let a = c.args in (number-zero a.nodes.now a.text.now a.links.now a.c (zero)).0
     in
     let a = c.args in
     record { count_in_bounds = (formed_room a.nodes.now a.text.now a.links.now a.c (formed)).node_room; nodes_bound = live-fits a.nodes.now a.text.now a.links.now a.c (formed) }
@@ -36,7 +36,7 @@ live_letters-total-requires c =
 pub returns : goal.returns
 returns c =
     let zero : graph_number c.args.nodes.now c.args.text.now c.args.links.now c.args.c ≡ 0 =
-      sym c.graph_number-number.ensures ∙ c.if-number-ne0.false
+    sym c.graph_number-number.ensures ∙ c.if-number-ne0.false
     in
     let a = c.args in
     ap (answer 0) c.live_letters-total.ensures ∙ counted a.nodes.now a.text.now a.links.now a.c (zero)

@@ -12,7 +12,7 @@ returns-then-number-ne0 c = rw (c.refuse.ensures, ← c.state_number-number.ensu
 pub collapse_group-requires : goal.collapse_group-requires
 collapse_group-requires c =
     let zero : state_number ((lent c.args.nodes.now c.args.links.now c.args.rules.now c.args.steps.now)) c.args.text.now c.args.c c.args.u ≡ 0 =
-      sym c.state_number-number.ensures ∙ c.if-number-ne0.false
+    sym c.state_number-number.ensures ∙ c.if-number-ne0.false
     in
     let a = c.args in
     let k = state-zero ((lent c.args.nodes.now c.args.links.now c.args.rules.now c.args.steps.now)) a.text.now a.c a.u (zero) in
@@ -22,6 +22,6 @@ pub returns : goal.returns
 unfolding collapse_outcome
 returns c =
     let zero : state_number ((lent c.args.nodes.now c.args.links.now c.args.rules.now c.args.steps.now)) c.args.text.now c.args.c c.args.u ≡ 0 =
-      sym c.state_number-number.ensures ∙ c.if-number-ne0.false
+    sym c.state_number-number.ensures ∙ c.if-number-ne0.false
     in
     rw (zero) c.collapse_group.ensures

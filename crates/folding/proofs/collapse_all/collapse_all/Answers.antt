@@ -13,7 +13,7 @@ returns-then-number-ne0 c = rw (c.refuse.ensures, ← c.driver_number-number.ens
 pub drive-requires : goal.drive-requires
 drive-requires c =
     let zero : driver_number ((lent c.args.nodes.now c.args.links.now c.args.rules.now c.args.steps.now)) c.args.text.now c.args.c c.args.u c.args.protected.now ≡ 0 =
-      sym c.driver_number-number.ensures ∙ c.if-number-ne0.false
+    sym c.driver_number-number.ensures ∙ c.if-number-ne0.false
     in
     let a = c.args in
     let k = state-zero ((lent c.args.nodes.now c.args.links.now c.args.rules.now c.args.steps.now)) a.text.now a.c a.u (first-pass (state_number ((lent c.args.nodes.now c.args.links.now c.args.rules.now c.args.steps.now)) a.text.now a.c a.u) _ (zero)).0 in
@@ -23,6 +23,6 @@ pub returns : goal.returns
 unfolding collapse_all_outcome
 returns c =
     let zero : driver_number ((lent c.args.nodes.now c.args.links.now c.args.rules.now c.args.steps.now)) c.args.text.now c.args.c c.args.u c.args.protected.now ≡ 0 =
-      sym c.driver_number-number.ensures ∙ c.if-number-ne0.false
+    sym c.driver_number-number.ensures ∙ c.if-number-ne0.false
     in
     rw (zero) c.drive.ensures
