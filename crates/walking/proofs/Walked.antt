@@ -24,16 +24,16 @@ abbrev c : Counts
 c = record { nodes = 2; letters = 4; links = 1 }
 
 abbrev spelled : List ℕ → List ℕ → s.Outcome
-spelled walk out = s.spellOutcome nodes letters links c walk out
+spelled walk out = s.spell_outcome nodes letters links c walk out
 
 -- 2- 1- reads CgT T
 writes : spelled (5 ∷ 3 ∷ []) (1 ∷ 2 ∷ 3 ∷ 4 ∷ 5 ∷ []) ≡ s.outcome (s.answer 0 0 4) (67 ∷ 103 ∷ 84 ∷ 84 ∷ 5 ∷ [])
-unfolding s.spellOutcome complement_of is_letter flip written
+unfolding s.spell_outcome complement_of is_letter flip written
 writes = refl
 
 -- 6 before 23 before 7
 refuses : (spelled (4 ∷ 4 ∷ 6 ∷ []) [] ≡ s.refused 6 0 []) × (spelled (2 ∷ 4 ∷ 4 ∷ []) [] ≡ s.refused 23 2 []) × (spelled (2 ∷ 4 ∷ []) (9 ∷ 9 ∷ 9 ∷ []) ≡ s.refused 7 0 (9 ∷ 9 ∷ 9 ∷ []))
-unfolding s.spellOutcome complement_of is_letter flip written
+unfolding s.spell_outcome complement_of is_letter flip written
 refuses = (refl, refl, refl)
 
 -- (2,3) as >2>4
@@ -47,14 +47,14 @@ abbrev u : Used
 u = record { rules = 1; steps = 2 }
 
 abbrev rewritten : List ℕ → List ℕ → t.Outcome
-rewritten walk out = t.transformOutcome nodes letters links c rules steps u walk out
+rewritten walk out = t.transform_outcome nodes letters links c rules steps u walk out
 
 -- 2- 1- becomes 4- 2- 1-
 rewrites : rewritten (5 ∷ 3 ∷ []) (1 ∷ 2 ∷ 3 ∷ 4 ∷ []) ≡ t.outcome (t.answer 0 3) (9 ∷ 5 ∷ 3 ∷ 4 ∷ [])
-unfolding t.transformOutcome complement_of is_letter flip written
+unfolding t.transform_outcome complement_of is_letter flip written
 rewrites = refl
 
 -- 6 before 7
 declines : (rewritten (4 ∷ 6 ∷ []) [] ≡ t.refused 6 []) × (rewritten (4 ∷ []) (7 ∷ []) ≡ t.refused 7 (7 ∷ []))
-unfolding t.transformOutcome complement_of is_letter flip written
+unfolding t.transform_outcome complement_of is_letter flip written
 declines = (refl, refl)
