@@ -24,8 +24,8 @@ link_kept-requires c = record { nodes_in_bounds = (c.requires.nodes_in_bounds.0,
 pub loop-i-preserved-then-not-link_kept : goal.loop-i-preserved-then-not-link_kept
 loop-i-preserved-then-not-link_kept c =
     let kept_so : link_kept (graph_of c.args.oldnodes.now [] [] c.args.c) (graph_of c.args.nodes.now [] c.args.links.now c.args.d) (list_of c.args.rules.now c.args.steps.now c.args.u) (link_at c.args.oldlinks.now (c.loop-i.i - 1)) ≡ c.link_kept.result =
-      let a = c.args in
-      ap (λ (x : Edge). link_kept (graph_of a.oldnodes.now [] [] a.c) (graph_of a.nodes.now [] a.links.now a.d) (list_of a.rules.now a.steps.now a.u) (link x 0)) (sym c.ends_at.ensures) ∙ sym c.link_kept.ensures
+    let a = c.args in
+    ap (λ (x : Edge). link_kept (graph_of a.oldnodes.now [] [] a.c) (graph_of a.nodes.now [] a.links.now a.d) (list_of a.rules.now a.steps.now a.u) (link x 0)) (sym c.ends_at.ensures) ∙ sym c.link_kept.ensures
     in
     let a = c.args in
     (omega arith, link_goes (graph_of a.oldnodes.now [] [] a.c) (graph_of a.nodes.now [] a.links.now a.d) (list_of a.rules.now a.steps.now a.u) a.c.links a.oldlinks.now c.requires.u_value.2 c.loop-i.i c.loop-i.best (omega arith) (omega arith) c.loop-i.invariant.1 (kept_so ∙ not-true c.link_kept.result c.if-not-link_kept.true-raw) c.earlier-best.result c.earlier-best.ensures)
@@ -33,8 +33,8 @@ loop-i-preserved-then-not-link_kept c =
 pub loop-i-preserved : goal.loop-i-preserved
 loop-i-preserved c =
     let kept_so : link_kept (graph_of c.args.oldnodes.now [] [] c.args.c) (graph_of c.args.nodes.now [] c.args.links.now c.args.d) (list_of c.args.rules.now c.args.steps.now c.args.u) (link_at c.args.oldlinks.now (c.loop-i.i - 1)) ≡ c.link_kept.result =
-      let a = c.args in
-      ap (λ (x : Edge). link_kept (graph_of a.oldnodes.now [] [] a.c) (graph_of a.nodes.now [] a.links.now a.d) (list_of a.rules.now a.steps.now a.u) (link x 0)) (sym c.ends_at.ensures) ∙ sym c.link_kept.ensures
+    let a = c.args in
+    ap (λ (x : Edge). link_kept (graph_of a.oldnodes.now [] [] a.c) (graph_of a.nodes.now [] a.links.now a.d) (list_of a.rules.now a.steps.now a.u) (link x 0)) (sym c.ends_at.ensures) ∙ sym c.link_kept.ensures
     in
     let a = c.args in
     (omega arith, link_stays (graph_of a.oldnodes.now [] [] a.c) (graph_of a.nodes.now [] a.links.now a.d) (list_of a.rules.now a.steps.now a.u) a.c.links a.oldlinks.now c.requires.u_value.2 c.loop-i.i c.loop-i.best (omega arith) (omega arith) c.loop-i.invariant.1 (kept_so ∙ not-false c.link_kept.result c.if-not-link_kept.false-raw))

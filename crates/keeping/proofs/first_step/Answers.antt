@@ -30,104 +30,104 @@ returns-in_default c =
 pub overflow_mul-first : goal.overflow_mul-first
 overflow_mul-first c =
     let found : RuleFound c.args.u.rules c.args.rules.now (id_of c.args.h) (len_of (graph_of c.args.oldnodes.now [] [] c.args.c) (id_of c.args.h)) c.in-At.i =
-      let a = c.args in
-      rule_found a.u.rules a.rules.now (id_of a.h) (len_of (graph_of a.oldnodes.now [] [] a.c) (id_of a.h)) c.in-At.i (looked_up (nodes_of a.c.nodes a.oldnodes.now) (rules_of a.u.rules a.rules.now) a.h c.id-id.result c.node_len-len.result c.id-id.ensures c.node_len-len.ensures (sym c.in-At.is ∙ c.find_rule.ensures))
+    let a = c.args in
+    rule_found a.u.rules a.rules.now (id_of a.h) (len_of (graph_of a.oldnodes.now [] [] a.c) (id_of a.h)) c.in-At.i (looked_up (nodes_of a.c.nodes a.oldnodes.now) (rules_of a.u.rules a.rules.now) a.h c.id-id.result c.node_len-len.result c.id-id.ensures c.node_len-len.ensures (sym c.in-At.is ∙ c.find_rule.ensures))
     in
     let room : 4 * c.in-At.i + 4 ≤ length c.args.rules.now =
-      let a = c.args in
-      slot_room a.oldnodes.now a.rules.now a.steps.now a.c a.u c.requires.1 a.h c.in-At.i (found)
+    let a = c.args in
+    slot_room a.oldnodes.now a.rules.now a.steps.now a.c a.u c.requires.1 a.h c.in-At.i (found)
     in
     omega (arith, room)
 
 pub overflow_add-first : goal.overflow_add-first
 overflow_add-first c =
     let found : RuleFound c.args.u.rules c.args.rules.now (id_of c.args.h) (len_of (graph_of c.args.oldnodes.now [] [] c.args.c) (id_of c.args.h)) c.in-At.i =
-      let a = c.args in
-      rule_found a.u.rules a.rules.now (id_of a.h) (len_of (graph_of a.oldnodes.now [] [] a.c) (id_of a.h)) c.in-At.i (looked_up (nodes_of a.c.nodes a.oldnodes.now) (rules_of a.u.rules a.rules.now) a.h c.id-id.result c.node_len-len.result c.id-id.ensures c.node_len-len.ensures (sym c.in-At.is ∙ c.find_rule.ensures))
+    let a = c.args in
+    rule_found a.u.rules a.rules.now (id_of a.h) (len_of (graph_of a.oldnodes.now [] [] a.c) (id_of a.h)) c.in-At.i (looked_up (nodes_of a.c.nodes a.oldnodes.now) (rules_of a.u.rules a.rules.now) a.h c.id-id.result c.node_len-len.result c.id-id.ensures c.node_len-len.ensures (sym c.in-At.is ∙ c.find_rule.ensures))
     in
     let room : 4 * c.in-At.i + 4 ≤ length c.args.rules.now =
-      let a = c.args in
-      slot_room a.oldnodes.now a.rules.now a.steps.now a.c a.u c.requires.1 a.h c.in-At.i (found)
+    let a = c.args in
+    slot_room a.oldnodes.now a.rules.now a.steps.now a.c a.u c.requires.1 a.h c.in-At.i (found)
     in
     omega (arith, room)
 
 pub offset_bounds-rules-i : goal.offset_bounds-rules-i
 offset_bounds-rules-i c =
     let found : RuleFound c.args.u.rules c.args.rules.now (id_of c.args.h) (len_of (graph_of c.args.oldnodes.now [] [] c.args.c) (id_of c.args.h)) c.in-At.i =
-      let a = c.args in
-      rule_found a.u.rules a.rules.now (id_of a.h) (len_of (graph_of a.oldnodes.now [] [] a.c) (id_of a.h)) c.in-At.i (looked_up (nodes_of a.c.nodes a.oldnodes.now) (rules_of a.u.rules a.rules.now) a.h c.id-id.result c.node_len-len.result c.id-id.ensures c.node_len-len.ensures (sym c.in-At.is ∙ c.find_rule.ensures))
+    let a = c.args in
+    rule_found a.u.rules a.rules.now (id_of a.h) (len_of (graph_of a.oldnodes.now [] [] a.c) (id_of a.h)) c.in-At.i (looked_up (nodes_of a.c.nodes a.oldnodes.now) (rules_of a.u.rules a.rules.now) a.h c.id-id.result c.node_len-len.result c.id-id.ensures c.node_len-len.ensures (sym c.in-At.is ∙ c.find_rule.ensures))
     in
     let room : 4 * c.in-At.i + 4 ≤ length c.args.rules.now =
-      let a = c.args in
-      slot_room a.oldnodes.now a.rules.now a.steps.now a.c a.u c.requires.1 a.h c.in-At.i (found)
+    let a = c.args in
+    slot_room a.oldnodes.now a.rules.now a.steps.now a.c a.u c.requires.1 a.h c.in-At.i (found)
     in
     omega (arith, room)
 
 pub bounds-rules-i : goal.bounds-rules-i
 bounds-rules-i c =
     let found : RuleFound c.args.u.rules c.args.rules.now (id_of c.args.h) (len_of (graph_of c.args.oldnodes.now [] [] c.args.c) (id_of c.args.h)) c.in-At.i =
-      let a = c.args in
-      rule_found a.u.rules a.rules.now (id_of a.h) (len_of (graph_of a.oldnodes.now [] [] a.c) (id_of a.h)) c.in-At.i (looked_up (nodes_of a.c.nodes a.oldnodes.now) (rules_of a.u.rules a.rules.now) a.h c.id-id.result c.node_len-len.result c.id-id.ensures c.node_len-len.ensures (sym c.in-At.is ∙ c.find_rule.ensures))
+    let a = c.args in
+    rule_found a.u.rules a.rules.now (id_of a.h) (len_of (graph_of a.oldnodes.now [] [] a.c) (id_of a.h)) c.in-At.i (looked_up (nodes_of a.c.nodes a.oldnodes.now) (rules_of a.u.rules a.rules.now) a.h c.id-id.result c.node_len-len.result c.id-id.ensures c.node_len-len.ensures (sym c.in-At.is ∙ c.find_rule.ensures))
     in
     let room : 4 * c.in-At.i + 4 ≤ length c.args.rules.now =
-      let a = c.args in
-      slot_room a.oldnodes.now a.rules.now a.steps.now a.c a.u c.requires.1 a.h c.in-At.i (found)
+    let a = c.args in
+    slot_room a.oldnodes.now a.rules.now a.steps.now a.c a.u c.requires.1 a.h c.in-At.i (found)
     in
     omega (arith, room)
 
 pub overflow_mul-count : goal.overflow_mul-count
 overflow_mul-count c =
     let found : RuleFound c.args.u.rules c.args.rules.now (id_of c.args.h) (len_of (graph_of c.args.oldnodes.now [] [] c.args.c) (id_of c.args.h)) c.in-At.i =
-      let a = c.args in
-      rule_found a.u.rules a.rules.now (id_of a.h) (len_of (graph_of a.oldnodes.now [] [] a.c) (id_of a.h)) c.in-At.i (looked_up (nodes_of a.c.nodes a.oldnodes.now) (rules_of a.u.rules a.rules.now) a.h c.id-id.result c.node_len-len.result c.id-id.ensures c.node_len-len.ensures (sym c.in-At.is ∙ c.find_rule.ensures))
+    let a = c.args in
+    rule_found a.u.rules a.rules.now (id_of a.h) (len_of (graph_of a.oldnodes.now [] [] a.c) (id_of a.h)) c.in-At.i (looked_up (nodes_of a.c.nodes a.oldnodes.now) (rules_of a.u.rules a.rules.now) a.h c.id-id.result c.node_len-len.result c.id-id.ensures c.node_len-len.ensures (sym c.in-At.is ∙ c.find_rule.ensures))
     in
     let room : 4 * c.in-At.i + 4 ≤ length c.args.rules.now =
-      let a = c.args in
-      slot_room a.oldnodes.now a.rules.now a.steps.now a.c a.u c.requires.1 a.h c.in-At.i (found)
+    let a = c.args in
+    slot_room a.oldnodes.now a.rules.now a.steps.now a.c a.u c.requires.1 a.h c.in-At.i (found)
     in
     omega (arith, room)
 
 pub overflow_add-count : goal.overflow_add-count
 overflow_add-count c =
     let found : RuleFound c.args.u.rules c.args.rules.now (id_of c.args.h) (len_of (graph_of c.args.oldnodes.now [] [] c.args.c) (id_of c.args.h)) c.in-At.i =
-      let a = c.args in
-      rule_found a.u.rules a.rules.now (id_of a.h) (len_of (graph_of a.oldnodes.now [] [] a.c) (id_of a.h)) c.in-At.i (looked_up (nodes_of a.c.nodes a.oldnodes.now) (rules_of a.u.rules a.rules.now) a.h c.id-id.result c.node_len-len.result c.id-id.ensures c.node_len-len.ensures (sym c.in-At.is ∙ c.find_rule.ensures))
+    let a = c.args in
+    rule_found a.u.rules a.rules.now (id_of a.h) (len_of (graph_of a.oldnodes.now [] [] a.c) (id_of a.h)) c.in-At.i (looked_up (nodes_of a.c.nodes a.oldnodes.now) (rules_of a.u.rules a.rules.now) a.h c.id-id.result c.node_len-len.result c.id-id.ensures c.node_len-len.ensures (sym c.in-At.is ∙ c.find_rule.ensures))
     in
     let room : 4 * c.in-At.i + 4 ≤ length c.args.rules.now =
-      let a = c.args in
-      slot_room a.oldnodes.now a.rules.now a.steps.now a.c a.u c.requires.1 a.h c.in-At.i (found)
+    let a = c.args in
+    slot_room a.oldnodes.now a.rules.now a.steps.now a.c a.u c.requires.1 a.h c.in-At.i (found)
     in
     omega (arith, room)
 
 pub offset_bounds-rules-i-2 : goal.offset_bounds-rules-i-2
 offset_bounds-rules-i-2 c =
     let found : RuleFound c.args.u.rules c.args.rules.now (id_of c.args.h) (len_of (graph_of c.args.oldnodes.now [] [] c.args.c) (id_of c.args.h)) c.in-At.i =
-      let a = c.args in
-      rule_found a.u.rules a.rules.now (id_of a.h) (len_of (graph_of a.oldnodes.now [] [] a.c) (id_of a.h)) c.in-At.i (looked_up (nodes_of a.c.nodes a.oldnodes.now) (rules_of a.u.rules a.rules.now) a.h c.id-id.result c.node_len-len.result c.id-id.ensures c.node_len-len.ensures (sym c.in-At.is ∙ c.find_rule.ensures))
+    let a = c.args in
+    rule_found a.u.rules a.rules.now (id_of a.h) (len_of (graph_of a.oldnodes.now [] [] a.c) (id_of a.h)) c.in-At.i (looked_up (nodes_of a.c.nodes a.oldnodes.now) (rules_of a.u.rules a.rules.now) a.h c.id-id.result c.node_len-len.result c.id-id.ensures c.node_len-len.ensures (sym c.in-At.is ∙ c.find_rule.ensures))
     in
     let room : 4 * c.in-At.i + 4 ≤ length c.args.rules.now =
-      let a = c.args in
-      slot_room a.oldnodes.now a.rules.now a.steps.now a.c a.u c.requires.1 a.h c.in-At.i (found)
+    let a = c.args in
+    slot_room a.oldnodes.now a.rules.now a.steps.now a.c a.u c.requires.1 a.h c.in-At.i (found)
     in
     omega (arith, room)
 
 pub bounds-rules-i-2 : goal.bounds-rules-i-2
 bounds-rules-i-2 c =
     let found : RuleFound c.args.u.rules c.args.rules.now (id_of c.args.h) (len_of (graph_of c.args.oldnodes.now [] [] c.args.c) (id_of c.args.h)) c.in-At.i =
-      let a = c.args in
-      rule_found a.u.rules a.rules.now (id_of a.h) (len_of (graph_of a.oldnodes.now [] [] a.c) (id_of a.h)) c.in-At.i (looked_up (nodes_of a.c.nodes a.oldnodes.now) (rules_of a.u.rules a.rules.now) a.h c.id-id.result c.node_len-len.result c.id-id.ensures c.node_len-len.ensures (sym c.in-At.is ∙ c.find_rule.ensures))
+    let a = c.args in
+    rule_found a.u.rules a.rules.now (id_of a.h) (len_of (graph_of a.oldnodes.now [] [] a.c) (id_of a.h)) c.in-At.i (looked_up (nodes_of a.c.nodes a.oldnodes.now) (rules_of a.u.rules a.rules.now) a.h c.id-id.result c.node_len-len.result c.id-id.ensures c.node_len-len.ensures (sym c.in-At.is ∙ c.find_rule.ensures))
     in
     let room : 4 * c.in-At.i + 4 ≤ length c.args.rules.now =
-      let a = c.args in
-      slot_room a.oldnodes.now a.rules.now a.steps.now a.c a.u c.requires.1 a.h c.in-At.i (found)
+    let a = c.args in
+    slot_room a.oldnodes.now a.rules.now a.steps.now a.c a.u c.requires.1 a.h c.in-At.i (found)
     in
     omega (arith, room)
 
 pub image_step-requires : goal.image_step-requires
 image_step-requires c =
     let found : RuleFound c.args.u.rules c.args.rules.now (id_of c.args.h) (len_of (graph_of c.args.oldnodes.now [] [] c.args.c) (id_of c.args.h)) c.in-At.i =
-      let a = c.args in
-      rule_found a.u.rules a.rules.now (id_of a.h) (len_of (graph_of a.oldnodes.now [] [] a.c) (id_of a.h)) c.in-At.i (looked_up (nodes_of a.c.nodes a.oldnodes.now) (rules_of a.u.rules a.rules.now) a.h c.id-id.result c.node_len-len.result c.id-id.ensures c.node_len-len.ensures (sym c.in-At.is ∙ c.find_rule.ensures))
+    let a = c.args in
+    rule_found a.u.rules a.rules.now (id_of a.h) (len_of (graph_of a.oldnodes.now [] [] a.c) (id_of a.h)) c.in-At.i (looked_up (nodes_of a.c.nodes a.oldnodes.now) (rules_of a.u.rules a.rules.now) a.h c.id-id.result c.node_len-len.result c.id-id.ensures c.node_len-len.ensures (sym c.in-At.is ∙ c.find_rule.ensures))
     in
     let a = c.args in
     let ok = c.requires.1 in
@@ -137,8 +137,8 @@ image_step-requires c =
 pub returns : goal.returns
 returns c =
     let found : RuleFound c.args.u.rules c.args.rules.now (id_of c.args.h) (len_of (graph_of c.args.oldnodes.now [] [] c.args.c) (id_of c.args.h)) c.in-At.i =
-      let a = c.args in
-      rule_found a.u.rules a.rules.now (id_of a.h) (len_of (graph_of a.oldnodes.now [] [] a.c) (id_of a.h)) c.in-At.i (looked_up (nodes_of a.c.nodes a.oldnodes.now) (rules_of a.u.rules a.rules.now) a.h c.id-id.result c.node_len-len.result c.id-id.ensures c.node_len-len.ensures (sym c.in-At.is ∙ c.find_rule.ensures))
+    let a = c.args in
+    rule_found a.u.rules a.rules.now (id_of a.h) (len_of (graph_of a.oldnodes.now [] [] a.c) (id_of a.h)) c.in-At.i (looked_up (nodes_of a.c.nodes a.oldnodes.now) (rules_of a.u.rules a.rules.now) a.h c.id-id.result c.node_len-len.result c.id-id.ensures c.node_len-len.ensures (sym c.in-At.is ∙ c.find_rule.ensures))
     in
     let a = c.args in
     c.image_step.ensures

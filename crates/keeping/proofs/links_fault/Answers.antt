@@ -12,7 +12,7 @@ use Rattle.keeping.proofs.LinksKept.{no_place, place}
 use Rattle.keeping.proofs.links_fault.Goals as goal
 
 pub first_lost-k-requires : goal.first_lost-k-requires
-first_lost-k-requires c = let both = c.requires in record { nodes_in_bounds = both.0; u_value = both.1 }
+first_lost-k-requires c = let both = c.requires in record { nodes_in_bounds = both.nodes_in_bounds; u_value = both.u_value }
 
 pub returns-then-count-k : goal.returns-then-count-k
 returns-then-count-k c =

@@ -21,8 +21,8 @@ has_rule-requires c = c.requires.2
 pub returns-then-has_rule : goal.returns-then-has_rule
 returns-then-has_rule c =
     let ruled_so : ruled (id_of c.args.h) (len_of (graph_of c.args.oldnodes.now c.args.oldtext.now [] c.args.c) (id_of c.args.h)) (rules_of c.args.u.rules c.args.rules.now) ≡ c.has_rule.result =
-      let a = c.args in
-      rule_told (graph_of a.oldnodes.now a.oldtext.now [] a.c) (graph_of a.nodes.now a.text.now [] a.d) (list_of a.rules.now [] a.u) a.h c.id-id.result c.node_len.result c.id-id.ensures c.node_len.ensures c.has_rule.ensures
+    let a = c.args in
+    rule_told (graph_of a.oldnodes.now a.oldtext.now [] a.c) (graph_of a.nodes.now a.text.now [] a.d) (list_of a.rules.now [] a.u) a.h c.id-id.result c.node_len.result c.id-id.ensures c.node_len.ensures c.has_rule.ensures
     in
     let a = c.args in
     let old = graph_of a.oldnodes.now a.oldtext.now [] a.c in
@@ -36,12 +36,12 @@ live_node-requires c = c.requires.1.node_room
 pub returns-then-not-live_node : goal.returns-then-not-live_node
 returns-then-not-live_node c =
     let ruled_so : ruled (id_of c.args.h) (len_of (graph_of c.args.oldnodes.now c.args.oldtext.now [] c.args.c) (id_of c.args.h)) (rules_of c.args.u.rules c.args.rules.now) ≡ c.has_rule.result =
-      let a = c.args in
-      rule_told (graph_of a.oldnodes.now a.oldtext.now [] a.c) (graph_of a.nodes.now a.text.now [] a.d) (list_of a.rules.now [] a.u) a.h c.id-id.result c.node_len.result c.id-id.ensures c.node_len.ensures c.has_rule.ensures
+    let a = c.args in
+    rule_told (graph_of a.oldnodes.now a.oldtext.now [] a.c) (graph_of a.nodes.now a.text.now [] a.d) (list_of a.rules.now [] a.u) a.h c.id-id.result c.node_len.result c.id-id.ensures c.node_len.ensures c.has_rule.ensures
     in
     let live_so : live_node (id_of c.args.h) (nodes_of c.args.d.nodes c.args.nodes.now) ≡ c.live_node.result =
-      let a = c.args in
-      ap (λ (k : ℕ). live_node k (nodes_of a.d.nodes a.nodes.now)) (sym c.id-id.ensures) ∙ sym c.live_node.ensures
+    let a = c.args in
+    ap (λ (k : ℕ). live_node k (nodes_of a.d.nodes a.nodes.now)) (sym c.id-id.ensures) ∙ sym c.live_node.ensures
     in
     let a = c.args in
     let old = graph_of a.oldnodes.now a.oldtext.now [] a.c in
@@ -63,12 +63,12 @@ same_letters-requires c =
 pub returns : goal.returns
 returns c =
     let ruled_so : ruled (id_of c.args.h) (len_of (graph_of c.args.oldnodes.now c.args.oldtext.now [] c.args.c) (id_of c.args.h)) (rules_of c.args.u.rules c.args.rules.now) ≡ c.has_rule.result =
-      let a = c.args in
-      rule_told (graph_of a.oldnodes.now a.oldtext.now [] a.c) (graph_of a.nodes.now a.text.now [] a.d) (list_of a.rules.now [] a.u) a.h c.id-id.result c.node_len.result c.id-id.ensures c.node_len.ensures c.has_rule.ensures
+    let a = c.args in
+    rule_told (graph_of a.oldnodes.now a.oldtext.now [] a.c) (graph_of a.nodes.now a.text.now [] a.d) (list_of a.rules.now [] a.u) a.h c.id-id.result c.node_len.result c.id-id.ensures c.node_len.ensures c.has_rule.ensures
     in
     let live_so : live_node (id_of c.args.h) (nodes_of c.args.d.nodes c.args.nodes.now) ≡ c.live_node.result =
-      let a = c.args in
-      ap (λ (k : ℕ). live_node k (nodes_of a.d.nodes a.nodes.now)) (sym c.id-id.ensures) ∙ sym c.live_node.ensures
+    let a = c.args in
+    ap (λ (k : ℕ). live_node k (nodes_of a.d.nodes a.nodes.now)) (sym c.id-id.ensures) ∙ sym c.live_node.ensures
     in
     let a = c.args in
     let old = graph_of a.oldnodes.now a.oldtext.now [] a.c in

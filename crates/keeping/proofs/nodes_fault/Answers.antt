@@ -28,8 +28,8 @@ node_kept-requires c = c.requires
 pub loop-i-preserved-then-not-node_kept : goal.loop-i-preserved-then-not-node_kept
 loop-i-preserved-then-not-node_kept c =
     let kept_so : node_kept (graph_of c.args.oldnodes.now c.args.oldtext.now [] c.args.c) (graph_of c.args.nodes.now c.args.text.now [] c.args.d) (list_of c.args.rules.now [] c.args.u) (pack (get_or c.args.oldnodes.now (4 * (c.loop-i.i - 1)) 0) 0) ≡ c.node_kept.result =
-      let a = c.args in
-      ap (λ (x : Handle). node_kept (graph_of a.oldnodes.now a.oldtext.now [] a.c) (graph_of a.nodes.now a.text.now [] a.d) (list_of a.rules.now [] a.u) x) (sym c.forward.ensures) ∙ sym c.node_kept.ensures
+    let a = c.args in
+    ap (λ (x : Handle). node_kept (graph_of a.oldnodes.now a.oldtext.now [] a.c) (graph_of a.nodes.now a.text.now [] a.d) (list_of a.rules.now [] a.u) x) (sym c.forward.ensures) ∙ sym c.node_kept.ensures
     in
     let a = c.args in
     (omega arith, c.lower_fault-v.ensures ∙ turn-lost (graph_of a.oldnodes.now a.oldtext.now [] a.c) (graph_of a.nodes.now a.text.now [] a.d) (list_of a.rules.now [] a.u) a.c.nodes a.oldnodes.now c.loop-i.i c.loop-i.v (omega arith) (omega arith) c.loop-i.invariant.1 (kept_so ∙ not-true c.node_kept.result c.if-not-node_kept.true-raw))
@@ -37,8 +37,8 @@ loop-i-preserved-then-not-node_kept c =
 pub loop-i-preserved : goal.loop-i-preserved
 loop-i-preserved c =
     let kept_so : node_kept (graph_of c.args.oldnodes.now c.args.oldtext.now [] c.args.c) (graph_of c.args.nodes.now c.args.text.now [] c.args.d) (list_of c.args.rules.now [] c.args.u) (pack (get_or c.args.oldnodes.now (4 * (c.loop-i.i - 1)) 0) 0) ≡ c.node_kept.result =
-      let a = c.args in
-      ap (λ (x : Handle). node_kept (graph_of a.oldnodes.now a.oldtext.now [] a.c) (graph_of a.nodes.now a.text.now [] a.d) (list_of a.rules.now [] a.u) x) (sym c.forward.ensures) ∙ sym c.node_kept.ensures
+    let a = c.args in
+    ap (λ (x : Handle). node_kept (graph_of a.oldnodes.now a.oldtext.now [] a.c) (graph_of a.nodes.now a.text.now [] a.d) (list_of a.rules.now [] a.u) x) (sym c.forward.ensures) ∙ sym c.node_kept.ensures
     in
     let a = c.args in
     (omega arith, turn-kept (graph_of a.oldnodes.now a.oldtext.now [] a.c) (graph_of a.nodes.now a.text.now [] a.d) (list_of a.rules.now [] a.u) a.c.nodes a.oldnodes.now c.loop-i.i c.loop-i.v (omega arith) (omega arith) c.loop-i.invariant.1 (kept_so ∙ not-false c.node_kept.result c.if-not-node_kept.false-raw))

@@ -3,7 +3,6 @@ use mathlib.Core.Path.{◌≡◌, refl, sym, ◌∙◌}
 use mathlib.Core.Bool.{Bool, true, false, cond, not}
 use mathlib.Core.List.{List}
 use native.Mathlib.Omega.{arith}
-use borrow.Author.Rules.{rules}
 use borrow.Author.Tests.{ne_eqb}
 use lib.Dec.{eqb}
 use Rattle.kit.specs.Loops.{all, distinct}
@@ -49,7 +48,7 @@ returns-then-number-ne0 c =
 pub conditions-requires : goal.conditions-requires
 conditions-requires c =
     let zero : input_number (lent c.args.old_nodes.now c.args.old_text.now c.args.old_links.now c.args.c) (lent c.args.nodes.now c.args.text.now c.args.links.now c.args.d) c.args.rules.now c.args.steps.now c.args.u c.args.protected.now ≡ 0 =
-      sym c.input_number-number.ensures ∙ c.if-number-ne0.false
+    sym c.input_number-number.ensures ∙ c.if-number-ne0.false
     in
     let a = c.args in
     formed (lent a.old_nodes.now a.old_text.now a.old_links.now a.c) (lent a.nodes.now a.text.now a.links.now a.d) a.rules.now a.steps.now a.u a.protected.now (zero)
@@ -57,7 +56,7 @@ conditions-requires c =
 pub returns : goal.returns
 returns c =
     let zero : input_number (lent c.args.old_nodes.now c.args.old_text.now c.args.old_links.now c.args.c) (lent c.args.nodes.now c.args.text.now c.args.links.now c.args.d) c.args.rules.now c.args.steps.now c.args.u c.args.protected.now ≡ 0 =
-      sym c.input_number-number.ensures ∙ c.if-number-ne0.false
+    sym c.input_number-number.ensures ∙ c.if-number-ne0.false
     in
     let a = c.args in
     checked (lent a.old_nodes.now a.old_text.now a.old_links.now a.c) (lent a.nodes.now a.text.now a.links.now a.d) a.rules.now a.steps.now a.u a.protected.now (zero) _ c.conditions.ensures

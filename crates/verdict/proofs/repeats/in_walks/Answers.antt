@@ -24,8 +24,8 @@ in_walk-requires c =
 pub returns-then-in_walk : goal.returns-then-in_walk
 returns-then-in_walk c =
     let met_so : any (eqb c.args.id) (protected_ids (graph_of c.args.oldnodes.now [] [] c.args.c) (list_of c.args.rules.now c.args.steps.now c.args.u) (get_or c.args.before.now c.loop-k.k 0)) ≡ c.in_walk.result =
-      let a = c.args in
-      ap (any (eqb a.id)) (sym (walk_ids a.oldnodes.now a.rules.now a.steps.now a.c a.u (get_or a.before.now c.loop-k.k 0) c.walk_of-w.result c.walk_of-w.ensures)) ∙ sym c.in_walk.ensures
+    let a = c.args in
+    ap (any (eqb a.id)) (sym (walk_ids a.oldnodes.now a.rules.now a.steps.now a.c a.u (get_or a.before.now c.loop-k.k 0) c.walk_of-w.result c.walk_of-w.ensures)) ∙ sym c.in_walk.ensures
     in
     let a = c.args in
     sym (walk_hit (protected_ids (graph_of a.oldnodes.now [] [] a.c) (list_of a.rules.now a.steps.now a.u)) a.id a.before.now c.loop-k.k (omega arith) (met_so ∙ c.if-in_walk.true)) ∙ c.loop-k.invariant.1
@@ -33,8 +33,8 @@ returns-then-in_walk c =
 pub loop-k-preserved : goal.loop-k-preserved
 loop-k-preserved c =
     let met_so : any (eqb c.args.id) (protected_ids (graph_of c.args.oldnodes.now [] [] c.args.c) (list_of c.args.rules.now c.args.steps.now c.args.u) (get_or c.args.before.now c.loop-k.k 0)) ≡ c.in_walk.result =
-      let a = c.args in
-      ap (any (eqb a.id)) (sym (walk_ids a.oldnodes.now a.rules.now a.steps.now a.c a.u (get_or a.before.now c.loop-k.k 0) c.walk_of-w.result c.walk_of-w.ensures)) ∙ sym c.in_walk.ensures
+    let a = c.args in
+    ap (any (eqb a.id)) (sym (walk_ids a.oldnodes.now a.rules.now a.steps.now a.c a.u (get_or a.before.now c.loop-k.k 0) c.walk_of-w.result c.walk_of-w.ensures)) ∙ sym c.in_walk.ensures
     in
     let a = c.args in
     (omega arith, sym (walk_miss (protected_ids (graph_of a.oldnodes.now [] [] a.c) (list_of a.rules.now a.steps.now a.u)) a.id a.before.now c.loop-k.k (omega arith) (met_so ∙ c.if-in_walk.false)) ∙ c.loop-k.invariant.1)

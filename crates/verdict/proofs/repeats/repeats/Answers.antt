@@ -27,32 +27,32 @@ loop-j-init c =
 pub overflow_add-h : goal.overflow_add-h
 overflow_add-h c =
     let bounds : (c.walk_of-w.result.first + c.walk_of-w.result.count ≤ c.args.u.steps) × (2 * c.args.u.steps ≤ length c.args.steps.now) =
-      let a = c.args in
-      (walk_inside a.oldnodes.now a.rules.now a.steps.now a.c a.u a.id c.walk_of-w.result c.walk_of-w.ensures c.requires.1, (table-room a.rules.now a.steps.now a.u c.requires.1).step_room)
+    let a = c.args in
+    (walk_inside a.oldnodes.now a.rules.now a.steps.now a.c a.u a.id c.walk_of-w.result c.walk_of-w.ensures c.requires.1, (table-room a.rules.now a.steps.now a.u c.requires.1).step_room)
     in
     omega (arith, bounds, c.loop-j.invariant.0)
 
 pub overflow_mul-h : goal.overflow_mul-h
 overflow_mul-h c =
     let bounds : (c.walk_of-w.result.first + c.walk_of-w.result.count ≤ c.args.u.steps) × (2 * c.args.u.steps ≤ length c.args.steps.now) =
-      let a = c.args in
-      (walk_inside a.oldnodes.now a.rules.now a.steps.now a.c a.u a.id c.walk_of-w.result c.walk_of-w.ensures c.requires.1, (table-room a.rules.now a.steps.now a.u c.requires.1).step_room)
+    let a = c.args in
+    (walk_inside a.oldnodes.now a.rules.now a.steps.now a.c a.u a.id c.walk_of-w.result c.walk_of-w.ensures c.requires.1, (table-room a.rules.now a.steps.now a.u c.requires.1).step_room)
     in
     omega (arith, bounds, c.loop-j.invariant.0)
 
 pub offset_bounds-steps-first : goal.offset_bounds-steps-first
 offset_bounds-steps-first c =
     let bounds : (c.walk_of-w.result.first + c.walk_of-w.result.count ≤ c.args.u.steps) × (2 * c.args.u.steps ≤ length c.args.steps.now) =
-      let a = c.args in
-      (walk_inside a.oldnodes.now a.rules.now a.steps.now a.c a.u a.id c.walk_of-w.result c.walk_of-w.ensures c.requires.1, (table-room a.rules.now a.steps.now a.u c.requires.1).step_room)
+    let a = c.args in
+    (walk_inside a.oldnodes.now a.rules.now a.steps.now a.c a.u a.id c.walk_of-w.result c.walk_of-w.ensures c.requires.1, (table-room a.rules.now a.steps.now a.u c.requires.1).step_room)
     in
     omega (arith, bounds, c.loop-j.invariant.0)
 
 pub bounds-steps-first : goal.bounds-steps-first
 bounds-steps-first c =
     let bounds : (c.walk_of-w.result.first + c.walk_of-w.result.count ≤ c.args.u.steps) × (2 * c.args.u.steps ≤ length c.args.steps.now) =
-      let a = c.args in
-      (walk_inside a.oldnodes.now a.rules.now a.steps.now a.c a.u a.id c.walk_of-w.result c.walk_of-w.ensures c.requires.1, (table-room a.rules.now a.steps.now a.u c.requires.1).step_room)
+    let a = c.args in
+    (walk_inside a.oldnodes.now a.rules.now a.steps.now a.c a.u a.id c.walk_of-w.result c.walk_of-w.ensures c.requires.1, (table-room a.rules.now a.steps.now a.u c.requires.1).step_room)
     in
     omega (arith, bounds, c.loop-j.invariant.0)
 
@@ -62,12 +62,12 @@ in_walks-requires c = c.requires
 pub returns-then-in_walks : goal.returns-then-in_walks
 returns-then-in_walks c =
     let node_so : get_or (protected_ids (graph_of c.args.oldnodes.now [] [] c.args.c) (list_of c.args.rules.now c.args.steps.now c.args.u) c.args.id) c.loop-j.j 0 ≡ c.id-node.result =
-      let a = c.args in
-      walk_node a.oldnodes.now a.rules.now a.steps.now a.c a.u a.id c.walk_of-w.result c.walk_of-w.ensures c.requires.1 c.loop-j.j (omega arith) ∙ sym c.id-node.ensures
+    let a = c.args in
+    walk_node a.oldnodes.now a.rules.now a.steps.now a.c a.u a.id c.walk_of-w.result c.walk_of-w.ensures c.requires.1 c.loop-j.j (omega arith) ∙ sym c.id-node.ensures
     in
     let seen_so : any (eqb (get_or (protected_ids (graph_of c.args.oldnodes.now [] [] c.args.c) (list_of c.args.rules.now c.args.steps.now c.args.u) c.args.id) c.loop-j.j 0)) (lines (protected_ids (graph_of c.args.oldnodes.now [] [] c.args.c) (list_of c.args.rules.now c.args.steps.now c.args.u)) c.args.before.now) ≡ c.in_walks.result =
-      let a = c.args in
-      ap (λ (x : ℕ). any (eqb x) (lines (protected_ids (graph_of a.oldnodes.now [] [] a.c) (list_of a.rules.now a.steps.now a.u)) a.before.now)) (node_so) ∙ sym c.in_walks.ensures
+    let a = c.args in
+    ap (λ (x : ℕ). any (eqb x) (lines (protected_ids (graph_of a.oldnodes.now [] [] a.c) (list_of a.rules.now a.steps.now a.u)) a.before.now)) (node_so) ∙ sym c.in_walks.ensures
     in
     let a = c.args in
     let n = walk_length a.oldnodes.now a.rules.now a.steps.now a.c a.u a.id c.walk_of-w.result c.walk_of-w.ensures c.requires.1 c.loop-j.j in
@@ -76,8 +76,8 @@ returns-then-in_walks c =
 pub in_walk-requires : goal.in_walk-requires
 in_walk-requires c =
     let bounds : (c.walk_of-w.result.first + c.walk_of-w.result.count ≤ c.args.u.steps) × (2 * c.args.u.steps ≤ length c.args.steps.now) =
-      let a = c.args in
-      (walk_inside a.oldnodes.now a.rules.now a.steps.now a.c a.u a.id c.walk_of-w.result c.walk_of-w.ensures c.requires.1, (table-room a.rules.now a.steps.now a.u c.requires.1).step_room)
+    let a = c.args in
+    (walk_inside a.oldnodes.now a.rules.now a.steps.now a.c a.u a.id c.walk_of-w.result c.walk_of-w.ensures c.requires.1, (table-room a.rules.now a.steps.now a.u c.requires.1).step_room)
     in
     let a = c.args in
     ((table-room a.rules.now a.steps.now a.u c.requires.1).step_room, omega (arith, (bounds).0, c.loop-j.invariant.0))
@@ -85,16 +85,16 @@ in_walk-requires c =
 pub returns-then-in_walk : goal.returns-then-in_walk
 returns-then-in_walk c =
     let node_so : get_or (protected_ids (graph_of c.args.oldnodes.now [] [] c.args.c) (list_of c.args.rules.now c.args.steps.now c.args.u) c.args.id) c.loop-j.j 0 ≡ c.id-node.result =
-      let a = c.args in
-      walk_node a.oldnodes.now a.rules.now a.steps.now a.c a.u a.id c.walk_of-w.result c.walk_of-w.ensures c.requires.1 c.loop-j.j (omega arith) ∙ sym c.id-node.ensures
+    let a = c.args in
+    walk_node a.oldnodes.now a.rules.now a.steps.now a.c a.u a.id c.walk_of-w.result c.walk_of-w.ensures c.requires.1 c.loop-j.j (omega arith) ∙ sym c.id-node.ensures
     in
     let seen_so : any (eqb (get_or (protected_ids (graph_of c.args.oldnodes.now [] [] c.args.c) (list_of c.args.rules.now c.args.steps.now c.args.u) c.args.id) c.loop-j.j 0)) (lines (protected_ids (graph_of c.args.oldnodes.now [] [] c.args.c) (list_of c.args.rules.now c.args.steps.now c.args.u)) c.args.before.now) ≡ c.in_walks.result =
-      let a = c.args in
-      ap (λ (x : ℕ). any (eqb x) (lines (protected_ids (graph_of a.oldnodes.now [] [] a.c) (list_of a.rules.now a.steps.now a.u)) a.before.now)) (node_so) ∙ sym c.in_walks.ensures
+    let a = c.args in
+    ap (λ (x : ℕ). any (eqb x) (lines (protected_ids (graph_of a.oldnodes.now [] [] a.c) (list_of a.rules.now a.steps.now a.u)) a.before.now)) (node_so) ∙ sym c.in_walks.ensures
     in
     let again_so : any (eqb (get_or (protected_ids (graph_of c.args.oldnodes.now [] [] c.args.c) (list_of c.args.rules.now c.args.steps.now c.args.u) c.args.id) c.loop-j.j 0)) (take c.loop-j.j (protected_ids (graph_of c.args.oldnodes.now [] [] c.args.c) (list_of c.args.rules.now c.args.steps.now c.args.u) c.args.id)) ≡ c.in_walk.result =
-      let a = c.args in
-      ap₂ (λ (x : ℕ) (l : List ℕ). any (eqb x) l) (node_so) (sym (walk_before a.oldnodes.now a.rules.now a.steps.now a.c a.u a.id c.walk_of-w.result c.walk_of-w.ensures c.requires.1 c.loop-j.j (omega arith))) ∙ sym c.in_walk.ensures
+    let a = c.args in
+    ap₂ (λ (x : ℕ) (l : List ℕ). any (eqb x) l) (node_so) (sym (walk_before a.oldnodes.now a.rules.now a.steps.now a.c a.u a.id c.walk_of-w.result c.walk_of-w.ensures c.requires.1 c.loop-j.j (omega arith))) ∙ sym c.in_walk.ensures
     in
     let a = c.args in
     let n = walk_length a.oldnodes.now a.rules.now a.steps.now a.c a.u a.id c.walk_of-w.result c.walk_of-w.ensures c.requires.1 c.loop-j.j in
@@ -103,16 +103,16 @@ returns-then-in_walk c =
 pub loop-j-preserved : goal.loop-j-preserved
 loop-j-preserved c =
     let node_so : get_or (protected_ids (graph_of c.args.oldnodes.now [] [] c.args.c) (list_of c.args.rules.now c.args.steps.now c.args.u) c.args.id) c.loop-j.j 0 ≡ c.id-node.result =
-      let a = c.args in
-      walk_node a.oldnodes.now a.rules.now a.steps.now a.c a.u a.id c.walk_of-w.result c.walk_of-w.ensures c.requires.1 c.loop-j.j (omega arith) ∙ sym c.id-node.ensures
+    let a = c.args in
+    walk_node a.oldnodes.now a.rules.now a.steps.now a.c a.u a.id c.walk_of-w.result c.walk_of-w.ensures c.requires.1 c.loop-j.j (omega arith) ∙ sym c.id-node.ensures
     in
     let seen_so : any (eqb (get_or (protected_ids (graph_of c.args.oldnodes.now [] [] c.args.c) (list_of c.args.rules.now c.args.steps.now c.args.u) c.args.id) c.loop-j.j 0)) (lines (protected_ids (graph_of c.args.oldnodes.now [] [] c.args.c) (list_of c.args.rules.now c.args.steps.now c.args.u)) c.args.before.now) ≡ c.in_walks.result =
-      let a = c.args in
-      ap (λ (x : ℕ). any (eqb x) (lines (protected_ids (graph_of a.oldnodes.now [] [] a.c) (list_of a.rules.now a.steps.now a.u)) a.before.now)) (node_so) ∙ sym c.in_walks.ensures
+    let a = c.args in
+    ap (λ (x : ℕ). any (eqb x) (lines (protected_ids (graph_of a.oldnodes.now [] [] a.c) (list_of a.rules.now a.steps.now a.u)) a.before.now)) (node_so) ∙ sym c.in_walks.ensures
     in
     let again_so : any (eqb (get_or (protected_ids (graph_of c.args.oldnodes.now [] [] c.args.c) (list_of c.args.rules.now c.args.steps.now c.args.u) c.args.id) c.loop-j.j 0)) (take c.loop-j.j (protected_ids (graph_of c.args.oldnodes.now [] [] c.args.c) (list_of c.args.rules.now c.args.steps.now c.args.u) c.args.id)) ≡ c.in_walk.result =
-      let a = c.args in
-      ap₂ (λ (x : ℕ) (l : List ℕ). any (eqb x) l) (node_so) (sym (walk_before a.oldnodes.now a.rules.now a.steps.now a.c a.u a.id c.walk_of-w.result c.walk_of-w.ensures c.requires.1 c.loop-j.j (omega arith))) ∙ sym c.in_walk.ensures
+    let a = c.args in
+    ap₂ (λ (x : ℕ) (l : List ℕ). any (eqb x) l) (node_so) (sym (walk_before a.oldnodes.now a.rules.now a.steps.now a.c a.u a.id c.walk_of-w.result c.walk_of-w.ensures c.requires.1 c.loop-j.j (omega arith))) ∙ sym c.in_walk.ensures
     in
     let a = c.args in
     let n = walk_length a.oldnodes.now a.rules.now a.steps.now a.c a.u a.id c.walk_of-w.result c.walk_of-w.ensures c.requires.1 c.loop-j.j in

@@ -3,7 +3,6 @@ use mathlib.Core.Path.{◌≡◌, refl, sym, ap, ap₂, ◌∙◌}
 use mathlib.Core.Bool.{true, false}
 use mathlib.Core.List.{List}
 use native.Mathlib.Omega.{arith}
-use borrow.Author.Rules.{rules}
 use borrow.Author.Tests.{not-true, not-false}
 use lib.ListN.{length, length-replicate}
 use Rattle.kit.specs.Loops.{all}
@@ -53,11 +52,11 @@ returns-then-not-events_formed c =
 pub keys_once-requires : goal.keys_once-requires
 keys_once-requires c =
     let formed : events_formed c.args.rules.now c.args.steps.now c.args.u ≡ true =
-      sym c.events_formed.ensures ∙ not-false _ c.if-not-events_formed.false-raw
+    sym c.events_formed.ensures ∙ not-false _ c.if-not-events_formed.false-raw
     in
     let table : table_formed c.args.rules.now c.args.steps.now c.args.u ≡ true =
-      let a = c.args in
-      and_true_l (table_formed a.rules.now a.steps.now a.u) (all has_step (rules_of a.u.rules a.rules.now)) (formed)
+    let a = c.args in
+    and_true_l (table_formed a.rules.now a.steps.now a.u) (all has_step (rules_of a.u.rules a.rules.now)) (formed)
     in
     let a = c.args in
     (table-room a.rules.now a.steps.now a.u (table)).rule_room
@@ -65,7 +64,7 @@ keys_once-requires c =
 pub returns-then-not-keys_once : goal.returns-then-not-keys_once
 returns-then-not-keys_once c =
     let formed : events_formed c.args.rules.now c.args.steps.now c.args.u ≡ true =
-      sym c.events_formed.ensures ∙ not-false _ c.if-not-events_formed.false-raw
+    sym c.events_formed.ensures ∙ not-false _ c.if-not-events_formed.false-raw
     in
     let a = c.args in
     ap (λ (r : Expanded). outcome r a.out_rules.now a.out_steps.now) c.refuse-then-not-keys_once.ensures
@@ -74,21 +73,21 @@ returns-then-not-keys_once c =
 pub in_order-requires : goal.in_order-requires
 in_order-requires c =
     let formed : events_formed c.args.rules.now c.args.steps.now c.args.u ≡ true =
-      sym c.events_formed.ensures ∙ not-false _ c.if-not-events_formed.false-raw
+    sym c.events_formed.ensures ∙ not-false _ c.if-not-events_formed.false-raw
     in
     let table : table_formed c.args.rules.now c.args.steps.now c.args.u ≡ true =
-      let a = c.args in
-      and_true_l (table_formed a.rules.now a.steps.now a.u) (all has_step (rules_of a.u.rules a.rules.now)) (formed)
+    let a = c.args in
+    and_true_l (table_formed a.rules.now a.steps.now a.u) (all has_step (rules_of a.u.rules a.rules.now)) (formed)
     in
     table
 
 pub returns-then-not-in_order : goal.returns-then-not-in_order
 returns-then-not-in_order c =
     let formed : events_formed c.args.rules.now c.args.steps.now c.args.u ≡ true =
-      sym c.events_formed.ensures ∙ not-false _ c.if-not-events_formed.false-raw
+    sym c.events_formed.ensures ∙ not-false _ c.if-not-events_formed.false-raw
     in
     let once : keys_once (rules_of c.args.u.rules c.args.rules.now) ≡ true =
-      sym c.keys_once.ensures ∙ not-false _ c.if-not-keys_once.false-raw
+    sym c.keys_once.ensures ∙ not-false _ c.if-not-keys_once.false-raw
     in
     let a = c.args in
     ap (λ (r : Expanded). outcome r a.out_rules.now a.out_steps.now) c.refuse-then-not-in_order.ensures
@@ -97,11 +96,11 @@ returns-then-not-in_order c =
 pub measure-total-requires : goal.measure-total-requires
 measure-total-requires c =
     let formed : events_formed c.args.rules.now c.args.steps.now c.args.u ≡ true =
-      sym c.events_formed.ensures ∙ not-false _ c.if-not-events_formed.false-raw
+    sym c.events_formed.ensures ∙ not-false _ c.if-not-events_formed.false-raw
     in
     let table : table_formed c.args.rules.now c.args.steps.now c.args.u ≡ true =
-      let a = c.args in
-      and_true_l (table_formed a.rules.now a.steps.now a.u) (all has_step (rules_of a.u.rules a.rules.now)) (formed)
+    let a = c.args in
+    and_true_l (table_formed a.rules.now a.steps.now a.u) (all has_step (rules_of a.u.rules a.rules.now)) (formed)
     in
     let a = c.args in
     let room = table-room a.rules.now a.steps.now a.u (table) in
@@ -110,17 +109,17 @@ measure-total-requires c =
 pub returns-then-not-room_for_rules : goal.returns-then-not-room_for_rules
 returns-then-not-room_for_rules c =
     let formed : events_formed c.args.rules.now c.args.steps.now c.args.u ≡ true =
-      sym c.events_formed.ensures ∙ not-false _ c.if-not-events_formed.false-raw
+    sym c.events_formed.ensures ∙ not-false _ c.if-not-events_formed.false-raw
     in
     let once : keys_once (rules_of c.args.u.rules c.args.rules.now) ≡ true =
-      sym c.keys_once.ensures ∙ not-false _ c.if-not-keys_once.false-raw
+    sym c.keys_once.ensures ∙ not-false _ c.if-not-keys_once.false-raw
     in
     let ordered : in_order (list_of c.args.rules.now c.args.steps.now c.args.u) ≡ true =
-      sym c.in_order.ensures ∙ not-false _ c.if-not-in_order.false-raw
+    sym c.in_order.ensures ∙ not-false _ c.if-not-in_order.false-raw
     in
     let fits : c.room_for_rules.result ≡ table_fits (expanded (list_of c.args.rules.now c.args.steps.now c.args.u)) c.args.out_rules.now c.args.out_steps.now =
-      let a = c.args in
-      c.room_for_rules.ensures ∙ room-same a.rules.now a.steps.now a.u _ a.out_rules.now a.out_steps.now (record { rules = a.u.rules; steps = c.measure-total.result }) refl c.measure-total.ensures
+    let a = c.args in
+    c.room_for_rules.ensures ∙ room-same a.rules.now a.steps.now a.u _ a.out_rules.now a.out_steps.now (record { rules = a.u.rules; steps = c.measure-total.result }) refl c.measure-total.ensures
     in
     let a = c.args in
     ap (λ (r : Expanded). outcome r a.out_rules.now a.out_steps.now) c.refuse-then-not-room_for_rules.ensures
@@ -129,55 +128,55 @@ returns-then-not-room_for_rules c =
 pub write_table-requires : goal.write_table-requires
 write_table-requires c =
     let formed : events_formed c.args.rules.now c.args.steps.now c.args.u ≡ true =
-      sym c.events_formed.ensures ∙ not-false _ c.if-not-events_formed.false-raw
+    sym c.events_formed.ensures ∙ not-false _ c.if-not-events_formed.false-raw
     in
     let table : table_formed c.args.rules.now c.args.steps.now c.args.u ≡ true =
-      let a = c.args in
-      and_true_l (table_formed a.rules.now a.steps.now a.u) (all has_step (rules_of a.u.rules a.rules.now)) (formed)
+    let a = c.args in
+    and_true_l (table_formed a.rules.now a.steps.now a.u) (all has_step (rules_of a.u.rules a.rules.now)) (formed)
     in
     let ordered : in_order (list_of c.args.rules.now c.args.steps.now c.args.u) ≡ true =
-      sym c.in_order.ensures ∙ not-false _ c.if-not-in_order.false-raw
+    sym c.in_order.ensures ∙ not-false _ c.if-not-in_order.false-raw
     in
     let ready : Buildable c.args.rules.now c.args.steps.now c.args.u c.measure-total.new.lens c.args.out_rules.now c.args.out_steps.now (record { rules = c.args.u.rules; steps = c.measure-total.result }) =
-      let a = c.args in
-      record {
+    let a = c.args in
+    record {
       formed = table;
       ordered = ordered;
       count = refl;
       room = sym c.room_for_rules.ensures ∙ not-false _ c.if-not-room_for_rules.false-raw;
       measured = c.measure-total.ensures;
-      }
+    }
     in
     ready
 
 pub returns : goal.returns
 returns c =
     let formed : events_formed c.args.rules.now c.args.steps.now c.args.u ≡ true =
-      sym c.events_formed.ensures ∙ not-false _ c.if-not-events_formed.false-raw
+    sym c.events_formed.ensures ∙ not-false _ c.if-not-events_formed.false-raw
     in
     let table : table_formed c.args.rules.now c.args.steps.now c.args.u ≡ true =
-      let a = c.args in
-      and_true_l (table_formed a.rules.now a.steps.now a.u) (all has_step (rules_of a.u.rules a.rules.now)) (formed)
+    let a = c.args in
+    and_true_l (table_formed a.rules.now a.steps.now a.u) (all has_step (rules_of a.u.rules a.rules.now)) (formed)
     in
     let ordered : in_order (list_of c.args.rules.now c.args.steps.now c.args.u) ≡ true =
-      sym c.in_order.ensures ∙ not-false _ c.if-not-in_order.false-raw
+    sym c.in_order.ensures ∙ not-false _ c.if-not-in_order.false-raw
     in
     let ready : Buildable c.args.rules.now c.args.steps.now c.args.u c.measure-total.new.lens c.args.out_rules.now c.args.out_steps.now (record { rules = c.args.u.rules; steps = c.measure-total.result }) =
-      let a = c.args in
-      record {
+    let a = c.args in
+    record {
       formed = table;
       ordered = ordered;
       count = refl;
       room = sym c.room_for_rules.ensures ∙ not-false _ c.if-not-room_for_rules.false-raw;
       measured = c.measure-total.ensures;
-      }
+    }
     in
     let once : keys_once (rules_of c.args.u.rules c.args.rules.now) ≡ true =
-      sym c.keys_once.ensures ∙ not-false _ c.if-not-keys_once.false-raw
+    sym c.keys_once.ensures ∙ not-false _ c.if-not-keys_once.false-raw
     in
     let fits : c.room_for_rules.result ≡ table_fits (expanded (list_of c.args.rules.now c.args.steps.now c.args.u)) c.args.out_rules.now c.args.out_steps.now =
-      let a = c.args in
-      c.room_for_rules.ensures ∙ room-same a.rules.now a.steps.now a.u _ a.out_rules.now a.out_steps.now (record { rules = a.u.rules; steps = c.measure-total.result }) refl c.measure-total.ensures
+    let a = c.args in
+    c.room_for_rules.ensures ∙ room-same a.rules.now a.steps.now a.u _ a.out_rules.now a.out_steps.now (record { rules = a.u.rules; steps = c.measure-total.result }) refl c.measure-total.ensures
     in
     let a = c.args in
     let b = ready in

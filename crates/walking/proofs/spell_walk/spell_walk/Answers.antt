@@ -39,7 +39,7 @@ returns-then-number-ne0 c =
 pub all_stored-requires : goal.all_stored-requires
 all_stored-requires c =
     let zero : graph_number c.args.nodes.now c.args.text.now c.args.links.now c.args.c ≡ 0 =
-      sym c.graph_number-number.ensures ∙ c.if-number-ne0.false
+    sym c.graph_number-number.ensures ∙ c.if-number-ne0.false
     in
     let a = c.args in
     (formed_room a.nodes.now a.text.now a.links.now a.c (formed a.nodes.now a.text.now a.links.now a.c a.walk.now a.out.now (zero))).node_room
@@ -47,7 +47,7 @@ all_stored-requires c =
 pub returns-then-not-all_stored : goal.returns-then-not-all_stored
 returns-then-not-all_stored c =
     let zero : graph_number c.args.nodes.now c.args.text.now c.args.links.now c.args.c ≡ 0 =
-      sym c.graph_number-number.ensures ∙ c.if-number-ne0.false
+    sym c.graph_number-number.ensures ∙ c.if-number-ne0.false
     in
     let a = c.args in
     ap (λ r. outcome r a.out.now) c.refuse-then-not-all_stored.ensures ∙ sym (no_step a.nodes.now a.text.now a.links.now a.c a.walk.now a.out.now (zero) (sym c.all_stored.ensures ∙ not-true _ c.if-not-all_stored.true-raw))
@@ -55,7 +55,7 @@ returns-then-not-all_stored c =
 pub first_gap-requires : goal.first_gap-requires
 first_gap-requires c =
     let zero : graph_number c.args.nodes.now c.args.text.now c.args.links.now c.args.c ≡ 0 =
-      sym c.graph_number-number.ensures ∙ c.if-number-ne0.false
+    sym c.graph_number-number.ensures ∙ c.if-number-ne0.false
     in
     let a = c.args in
     (formed_room a.nodes.now a.text.now a.links.now a.c (formed a.nodes.now a.text.now a.links.now a.c a.walk.now a.out.now (zero))).link_room
@@ -63,7 +63,7 @@ first_gap-requires c =
 pub give-requires : goal.give-requires
 give-requires c =
     let zero : graph_number c.args.nodes.now c.args.text.now c.args.links.now c.args.c ≡ 0 =
-      sym c.graph_number-number.ensures ∙ c.if-number-ne0.false
+    sym c.graph_number-number.ensures ∙ c.if-number-ne0.false
     in
     let a = c.args in
     formed_readable a.nodes.now a.text.now a.links.now a.c (formed a.nodes.now a.text.now a.links.now a.c a.walk.now a.out.now (zero))
@@ -71,11 +71,11 @@ give-requires c =
 pub returns-in_default : goal.returns-in_default
 returns-in_default c =
     let zero : graph_number c.args.nodes.now c.args.text.now c.args.links.now c.args.c ≡ 0 =
-      sym c.graph_number-number.ensures ∙ c.if-number-ne0.false
+    sym c.graph_number-number.ensures ∙ c.if-number-ne0.false
     in
     let gap : spell_outcome c.args.nodes.now c.args.text.now c.args.links.now c.args.c c.args.walk.now c.args.out.now ≡ or_gap (first_gap (links_of c.args.c.links c.args.links.now) (handles_of c.args.walk.now)) (spell_walk (graph_of c.args.nodes.now c.args.text.now c.args.links.now c.args.c) (handles_of c.args.walk.now)) c.args.out.now =
-      let a = c.args in
-      by_gap a.nodes.now a.text.now a.links.now a.c a.walk.now a.out.now (zero) (sym c.all_stored.ensures ∙ not-false _ c.if-not-all_stored.false-raw)
+    let a = c.args in
+    by_gap a.nodes.now a.text.now a.links.now a.c a.walk.now a.out.now (zero) (sym c.all_stored.ensures ∙ not-false _ c.if-not-all_stored.false-raw)
     in
     let a = c.args in
     let letters = spell_walk (graph_of a.nodes.now a.text.now a.links.now a.c) (handles_of a.walk.now) in
@@ -84,11 +84,11 @@ returns-in_default c =
 pub returns : goal.returns
 returns c =
     let zero : graph_number c.args.nodes.now c.args.text.now c.args.links.now c.args.c ≡ 0 =
-      sym c.graph_number-number.ensures ∙ c.if-number-ne0.false
+    sym c.graph_number-number.ensures ∙ c.if-number-ne0.false
     in
     let gap : spell_outcome c.args.nodes.now c.args.text.now c.args.links.now c.args.c c.args.walk.now c.args.out.now ≡ or_gap (first_gap (links_of c.args.c.links c.args.links.now) (handles_of c.args.walk.now)) (spell_walk (graph_of c.args.nodes.now c.args.text.now c.args.links.now c.args.c) (handles_of c.args.walk.now)) c.args.out.now =
-      let a = c.args in
-      by_gap a.nodes.now a.text.now a.links.now a.c a.walk.now a.out.now (zero) (sym c.all_stored.ensures ∙ not-false _ c.if-not-all_stored.false-raw)
+    let a = c.args in
+    by_gap a.nodes.now a.text.now a.links.now a.c a.walk.now a.out.now (zero) (sym c.all_stored.ensures ∙ not-false _ c.if-not-all_stored.false-raw)
     in
     let a = c.args in
     let letters = spell_walk (graph_of a.nodes.now a.text.now a.links.now a.c) (handles_of a.walk.now) in

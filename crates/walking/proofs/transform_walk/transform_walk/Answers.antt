@@ -3,7 +3,6 @@ use mathlib.Core.Path.{◌≡◌, sym, ap, ◌∙◌}
 use mathlib.Core.Bool.{true, false}
 use mathlib.Core.List.{List}
 use native.Mathlib.Omega.{arith}
-use borrow.Author.Rules.{rules}
 use borrow.Author.Tests.{ne_eqb, lt-ltb, le-ltb, not-true, not-false}
 use lib.ListN.{length}
 use Rattle.kit.specs.declared.Found.TheVariants.{At, Nothing}
@@ -74,7 +73,7 @@ returns-then-number-ne0 c =
 pub all_stored-requires : goal.all_stored-requires
 all_stored-requires c =
     let zero : old_number c.args.nodes.now c.args.text.now c.args.links.now c.args.c c.args.rules.now c.args.steps.now c.args.u ≡ 0 =
-      sym c.old_number-number.ensures ∙ c.if-number-ne0.false
+    sym c.old_number-number.ensures ∙ c.if-number-ne0.false
     in
     let a = c.args in
     (room a.nodes.now a.text.now a.links.now a.c a.rules.now a.steps.now a.u a.walk.now a.out.now (zero)).node_room
@@ -82,7 +81,7 @@ all_stored-requires c =
 pub returns-then-not-all_stored : goal.returns-then-not-all_stored
 returns-then-not-all_stored c =
     let zero : old_number c.args.nodes.now c.args.text.now c.args.links.now c.args.c c.args.rules.now c.args.steps.now c.args.u ≡ 0 =
-      sym c.old_number-number.ensures ∙ c.if-number-ne0.false
+    sym c.old_number-number.ensures ∙ c.if-number-ne0.false
     in
     let a = c.args in
     sym (no_step a.nodes.now a.text.now a.links.now a.c a.rules.now a.steps.now a.u a.walk.now a.out.now (zero) (sym c.all_stored.ensures ∙ not-true _ c.if-not-all_stored.true-raw))
@@ -90,7 +89,7 @@ returns-then-not-all_stored c =
 pub rewritten_len-requires : goal.rewritten_len-requires
 rewritten_len-requires c =
     let zero : old_number c.args.nodes.now c.args.text.now c.args.links.now c.args.c c.args.rules.now c.args.steps.now c.args.u ≡ 0 =
-      sym c.old_number-number.ensures ∙ c.if-number-ne0.false
+    sym c.old_number-number.ensures ∙ c.if-number-ne0.false
     in
     let a = c.args in
     let z = zero in
@@ -99,10 +98,10 @@ rewritten_len-requires c =
 pub returns-in_default : goal.returns-in_default
 returns-in_default c =
     let zero : old_number c.args.nodes.now c.args.text.now c.args.links.now c.args.c c.args.rules.now c.args.steps.now c.args.u ≡ 0 =
-      sym c.old_number-number.ensures ∙ c.if-number-ne0.false
+    sym c.old_number-number.ensures ∙ c.if-number-ne0.false
     in
     let stored : all_stored (nodes_of c.args.c.nodes c.args.nodes.now) (handles_of c.args.walk.now) ≡ true =
-      sym c.all_stored.ensures ∙ not-false _ c.if-not-all_stored.false-raw
+    sym c.all_stored.ensures ∙ not-false _ c.if-not-all_stored.false-raw
     in
     let a = c.args in
     sym (exceeds a.nodes.now a.text.now a.links.now a.c a.rules.now a.steps.now a.u a.walk.now a.out.now (zero) (stored) (sym c.rewritten_len.ensures ∙ c.in_default.is))
@@ -110,7 +109,7 @@ returns-in_default c =
 pub write_walk-requires : goal.write_walk-requires
 write_walk-requires c =
     let zero : old_number c.args.nodes.now c.args.text.now c.args.links.now c.args.c c.args.rules.now c.args.steps.now c.args.u ≡ 0 =
-      sym c.old_number-number.ensures ∙ c.if-number-ne0.false
+    sym c.old_number-number.ensures ∙ c.if-number-ne0.false
     in
     let a = c.args in
     let z = zero in
@@ -119,10 +118,10 @@ write_walk-requires c =
 pub returns : goal.returns
 returns c =
     let zero : old_number c.args.nodes.now c.args.text.now c.args.links.now c.args.c c.args.rules.now c.args.steps.now c.args.u ≡ 0 =
-      sym c.old_number-number.ensures ∙ c.if-number-ne0.false
+    sym c.old_number-number.ensures ∙ c.if-number-ne0.false
     in
     let stored : all_stored (nodes_of c.args.c.nodes c.args.nodes.now) (handles_of c.args.walk.now) ≡ true =
-      sym c.all_stored.ensures ∙ not-false _ c.if-not-all_stored.false-raw
+    sym c.all_stored.ensures ∙ not-false _ c.if-not-all_stored.false-raw
     in
     let a = c.args in
     ap (outcome (answer 0 c.in-At.length)) c.write_walk.ensures ∙ sym (stands a.nodes.now a.text.now a.links.now a.c a.rules.now a.steps.now a.u a.walk.now a.out.now (zero) (stored) c.in-At.length (sym c.rewritten_len.ensures ∙ c.in-At.is))
