@@ -21,16 +21,6 @@ returns-then-g-ne0 c =
     let a = c.args in
     record { out_after = next_refused (writing (head_text a.text.now) a.out.now) (subgraph_outcome a.nodes.now a.letters.now a.links.now a.d) _ _ c.print_head-h.ensures.out_after c.if-h-ne0.false _ _ c.print_active_subgraph-g.ensures c.if-g-ne0.true; len_in_bounds = omega arith }
 
-pub overflow_add-result : goal.overflow_add-result
-overflow_add-result c =
-    let a = c.args in
-    let i = inside_of _ _ _ c.print_active_subgraph-g.ensures (subgraph_inside a.nodes.now a.letters.now a.links.now a.d _) in
-    let j = back_inside c.print_head-h.result.len c.print_head-h.new.out c.print_active_subgraph-g.result.len c.print_active_subgraph-g.new.out c.print_head-h.ensures.len_in_bounds i in
-    let n = c.print_head-h.result.len in
-    let xs = c.print_head-h.new.out in
-    let ys = c.print_active_subgraph-g.new.out in
-    let s : length (take n xs ++ (ys ++ drop (length xs - n) (drop n xs))) ≡ length a.out.now = same-length-3 c in
-    omega (arith, j, s, c.well_formed.1.1.1.1.1.0.0)
 
 pub returns : goal.returns
 unfolding headed_outcome

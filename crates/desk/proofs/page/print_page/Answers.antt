@@ -21,16 +21,6 @@ returns-then-p-ne0 c =
     let a = c.args in
     record { out_after = next_refused (headed_outcome a.text.now (lent a.nodes.now a.letters.now a.links.now a.d) a.out.now) (paths_outcome a.text.now a.old_nodes.now a.letters.now a.old_links.now a.c a.rules.now a.steps.now a.u) _ _ c.print_headed-g.ensures.out_after c.if-g-ne0.false _ _ c.parse_and_transform_paths-p.ensures c.if-p-ne0.true; len_in_bounds = omega arith }
 
-pub overflow_add-result : goal.overflow_add-result
-overflow_add-result c =
-    let a = c.args in
-    let i = inside_of _ _ _ c.parse_and_transform_paths-p.ensures (paths-inside a.old_nodes.now a.letters.now a.old_links.now a.c a.rules.now a.steps.now a.u _ a.text.now) in
-    let j = back_inside c.print_headed-g.result.len c.print_headed-g.new.out c.parse_and_transform_paths-p.result.len c.parse_and_transform_paths-p.new.out c.print_headed-g.ensures.len_in_bounds i in
-    let n = c.print_headed-g.result.len in
-    let xs = c.print_headed-g.new.out in
-    let ys = c.parse_and_transform_paths-p.new.out in
-    let s : length (take n xs ++ (ys ++ drop (length xs - n) (drop n xs))) ≡ length a.out.now = same-length-3 c in
-    omega (arith, j, s, c.well_formed.1.1.1.1.1.1.1.1.1.1.1.0.0)
 
 pub returns : goal.returns
 unfolding page_outcome
