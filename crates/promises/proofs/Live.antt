@@ -82,7 +82,9 @@ module _ (g : Graph) where
       sym (flip-flip (first_of (turn_walk a))) ∙ ap flip (sym (last_turn (turn_walk a) (live-turn a t)) ∙ ap last_of (turn-turn a))
 
   pub live_mem : (hs : List Handle) → live_walk g hs ≡ true → {h : Handle} → Memᴰ h hs → live_node (id_of h) g.nodes ≡ true
+  live_mem [] t m = elim m [ ]
   live_mem (x ∷ []) t (Memᴰ.head e) = ap (λ (h : Handle). live_node (id_of h) g.nodes) e ∙ t
+  live_mem (x ∷ []) t (Memᴰ.tail m) = elim m [ ]
   live_mem (x ∷ y ∷ hs) t (Memᴰ.head e) = ap (λ (h : Handle). live_node (id_of h) g.nodes) e ∙ (live_says x y hs t).node_live
   live_mem (x ∷ y ∷ hs) t (Memᴰ.tail m) = live_mem (y ∷ hs) (live_says x y hs t).rest_live m
 

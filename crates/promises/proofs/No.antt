@@ -43,6 +43,7 @@ use Rattle.store.proofs.Lookups.{live-stored}
 
 -- where no key is given twice, a rule is the one under its key
 rule_only : {r : Rule} (rs : List Rule) → keys_once rs ≡ true → Memᴰ r rs → rule_under r.id r.len rs ≡ r
+rule_only {r} [] t m = elim m [ ]
 rule_only {r} (x ∷ rs) t (Memᴰ.head e) =
     rw (eq-eqb x.id r.id (ap (λ (y : Rule). y.id) (sym e)), eq-eqb x.len r.len (ap (λ (y : Rule). y.len) (sym e))) (sym e)
 rule_only {r} (x ∷ rs) t (Memᴰ.tail m) =
