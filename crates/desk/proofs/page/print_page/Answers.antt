@@ -1,3 +1,6 @@
+use lib.Seq.{length-take-le}
+use lib.ListN.{length-drop, drop}
+use Prim.Native.Nat.{◌-◌}
 use Prim.Native.Nat.{◌-◌}
 use mathlib.Core.Path.{◌≡◌}
 use mathlib.Core.List.{◌++◌}
@@ -21,10 +24,19 @@ returns-then-p-ne0 c =
     let a = c.args in
     record { out_after = next_refused (headed_outcome a.text.now (lent a.nodes.now a.letters.now a.links.now a.d) a.out.now) (paths_outcome a.text.now a.old_nodes.now a.letters.now a.old_links.now a.c a.rules.now a.steps.now a.u) _ _ c.print_headed-g.ensures.out_after c.if-g-ne0.false _ _ c.parse_and_transform_paths-p.ensures c.if-p-ne0.true; len_in_bounds = omega arith }
 
-
 pub returns : goal.returns
 unfolding page_outcome
 returns c =
     let a = c.args in
     let i = inside_of _ _ _ c.parse_and_transform_paths-p.ensures (paths-inside a.old_nodes.now a.letters.now a.old_links.now a.c a.rules.now a.steps.now a.u _ a.text.now) in
     record { out_after = both-written (headed_outcome a.text.now (lent a.nodes.now a.letters.now a.links.now a.d) a.out.now) (paths_outcome a.text.now a.old_nodes.now a.letters.now a.old_links.now a.c a.rules.now a.steps.now a.u) _ _ c.print_headed-g.ensures.out_after c.if-g-ne0.false _ _ c.parse_and_transform_paths-p.ensures c.if-p-ne0.false; len_in_bounds = back_inside c.print_headed-g.result.len c.print_headed-g.new.out c.parse_and_transform_paths-p.result.len c.parse_and_transform_paths-p.new.out c.print_headed-g.ensures.len_in_bounds i }
+
+pub overflow_add-result : goal.overflow_add-result
+overflow_add-result c =
+    let a = c.args in
+    let i = inside_of _ _ _ c.parse_and_transform_paths-p.ensures (paths-inside a.old_nodes.now a.letters.now a.old_links.now a.c a.rules.now a.steps.now a.u _ a.text.now) in
+    let n = c.print_headed-g.result.len in
+    let xs = c.print_headed-g.new.out in
+    let d = length-drop n xs in
+    let k = length-take-le (length xs - n) (drop n xs) (omega arith) in
+    omega (arith, i, k, c.parse_and_transform_paths-p.auto.out, c.print_headed-g.auto.out, c.print_headed-g.ensures.len_in_bounds, c.well_formed.1.1.1.1.1.1.1.1.1.1.1.0.0)

@@ -26,9 +26,9 @@ returns-then-begins_with_h c =
 pub returns-then-end-text : goal.returns-then-end-text
 returns-then-end-text c =
     let later : header_from c.args.fallback.now (c.piece_end-end.result + 1) (after 10 c.args.text.now c.piece_end-end.result) ≡ header_part c.args.text.now c.args.fallback.now =
-      let a = c.args in
-      let no = sym c.begins_with_h.ensures ∙ c.if-begins_with_h.false in
-      part-later c.piece_end-end.ensures a.fallback.now c.loop-at.invariant.1 no
+    let a = c.args in
+    let no = sym c.begins_with_h.ensures ∙ c.if-begins_with_h.false in
+    part-later c.piece_end-end.ensures a.fallback.now c.loop-at.invariant.1 no
     in
     let a = c.args in
     let both = both a.text.now a.fallback.now _ (rw (eq-eqb _ _ c.if-end-text.true) at (later)) in record { value = both.0; fallback_value = both.1 }
@@ -36,8 +36,8 @@ returns-then-end-text c =
 pub loop-at-preserved : goal.loop-at-preserved
 loop-at-preserved c =
     let later : header_from c.args.fallback.now (c.piece_end-end.result + 1) (after 10 c.args.text.now c.piece_end-end.result) ≡ header_part c.args.text.now c.args.fallback.now =
-      let a = c.args in
-      let no = sym c.begins_with_h.ensures ∙ c.if-begins_with_h.false in
-      part-later c.piece_end-end.ensures a.fallback.now c.loop-at.invariant.1 no
+    let a = c.args in
+    let no = sym c.begins_with_h.ensures ∙ c.if-begins_with_h.false in
+    part-later c.piece_end-end.ensures a.fallback.now c.loop-at.invariant.1 no
     in
     (search rules, rw (ne_eqb _ _ c.if-end-text.false) at (later))
