@@ -1,5 +1,5 @@
-// A line reader that holds a reference to the text and its place. A function over such a struct is proved by hand; so
-// the reader's step takes it apart and calls a finder on a plain slice.
+// A line reader that holds a reference to the text and its place. Its step takes it apart and calls a finder on a plain
+// slice.
 #![tactic(auto)]
 
 ghost use Rattle.std.specs.Prelude.{◌≤◌, length};
