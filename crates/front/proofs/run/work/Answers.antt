@@ -1,18 +1,15 @@
 -- By hand: a tactic that reads the rooms' lengths unfolds them.
-use Prim.Native.Nat.{ℕ, ◌*◌, ◌≤◌}
-use mathlib.Core.Path.{◌≡◌, refl, sym}
-use mathlib.Core.List.{List}
-use native.Mathlib.Omega.{arith}
-use lib.ListN.{length, take}
+use Prim.Native.Nat.{ℕ}
+use mathlib.Core.Path.{sym}
+use lib.ListN.{length-replicate}
 use lib.Seq.{length-take-le}
 use Rattle.front.proofs.run.work.Goals as goal
 
--- the room for events has 32768 places
-inside : (n : ℕ) (room : List ℕ) → length room ≡ 32768 → n ≤ 8192 → 4 * n ≡ length (take (4 * n) room)
-inside n room e h = sym (length-take-le (4 * n) room (omega arith))
-
 pub slice_bounds-work-end-10 : goal.slice_bounds-work-end-10
-slice_bounds-work-end-10 g c = inside c.least-events.result _ ? c.least-events.ensures
+slice_bounds-work-end-10 g c = sym (length-replicate {A = ℕ} 524288 0)
+
+pub slice_bounds-work-end-11 : goal.slice_bounds-work-end-11
+slice_bounds-work-end-11 g c = sym (length-replicate {A = ℕ} 262144 0)
 
 pub returns-then-d-ne0 : goal.returns-then-d-ne0
 returns-then-d-ne0 g c = c.refuse.ensures
