@@ -13,6 +13,7 @@ fn is_digit(b: u8) -> bool
 
 // The id that a name says, 0 where it is none. The number only grows from digit to digit, so that the first one above the
 // range is the last one made.
+#[tactic(auto, using(crate::proofs::Naming::id_leading))]
 pub fn name_id(bytes: &[u8]) -> u64
     ensures { result ≡ name_id bytes.now }
 {

@@ -8,7 +8,7 @@ use borrow.Author.Tests.{not-true, not-false}
 use lib.ListN.{length, drop, get_or}
 use Rattle.kit.specs.Decimal.{is_digit}
 use Rattle.text.specs.Names.{name_id}
-use Rattle.text.proofs.Naming.{id_from, id-empty, id_leading, id_begins, digit_low, digit_high, id_digit, id_other, id_large, id_end}
+use Rattle.text.proofs.Naming.{id_from, id-empty, id_begins, digit_low, digit_high, id_digit, id_other, id_large, id_end}
 use Rattle.text.proofs.names.name_id.Goals as goal
 
 -- at a digit: its bounds, and what is left after it
@@ -22,13 +22,10 @@ module _ (text : List ℕ) (i id : ℕ) (digit : is_digit (get_or text i 0) ≡ 
 pub returns-then-bytes-eq0 : goal.returns-then-bytes-eq0
 returns-then-bytes-eq0 c = sym (id-empty c.args.bytes.now c.if-bytes-eq0.true)
 
-pub returns-then-bytes-eq48 : goal.returns-then-bytes-eq48
-returns-then-bytes-eq48 c = sym (id_leading c.args.bytes.now c.if-bytes-eq48.true)
-
 pub loop-i-init : goal.loop-i-init
 loop-i-init c =
     let a = c.args in
-    (search rules, search rules, id_begins a.bytes.now c.if-bytes-eq0.false c.if-bytes-eq48.false)
+    (search rules, search rules, id_begins a.bytes.now c.if-bytes-eq0.false (omega arith))
 
 pub returns-then-not-is_digit : goal.returns-then-not-is_digit
 returns-then-not-is_digit c =
