@@ -5,9 +5,6 @@ use lib.Seq.{length-take-le}
 use Rattle.cases.proofs.Copying.{copied_more, copied}
 use Rattle.cases.proofs.lend.widen.Goals as goal
 
-pub overflow_cast-to : goal.overflow_cast-to
-overflow_cast-to c = omega (arith, c.shared_slice_known-in-loop-i-1.given c.loop-i.i)
-
 pub loop-i-preserved : goal.loop-i-preserved
 loop-i-preserved c =
     let src = c.args.from.now in
