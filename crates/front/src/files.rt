@@ -147,6 +147,9 @@ fn settle(file: &impl OpenFile) -> i32 {
     if e.kind() == io::ErrorKind::InvalidInput {
         return 0;
     }
+    if e.kind() == io::ErrorKind::Unsupported {
+        return 0;
+    }
     reason(e)
 }
 
