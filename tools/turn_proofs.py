@@ -14,6 +14,7 @@ import os
 import re
 import subprocess
 import sys
+import tempfile
 
 W = r"[^\s(){}.;,@\"«»\[\]\\]+"
 TOKEN = re.compile(r"--[^\n]*|\"(?:[^\"\\]|\\.)*\"|«[^»]*»|%s(?:\.%s)*|\s+|." % (W, W), re.S)
@@ -21,6 +22,8 @@ START = {"args", "requires", "ranges", "utf8", "captures", "type-inv", "well-for
 norm = lambda it: re.sub(r"[-_]+", "-", it)
 # The step of a name that older scripts took for a lemma of antt, as `len_of_lem`, `Node-kept` or `well-formed-2`.
 loose = lambda it: re.sub(r"[-_]", "", re.sub(r"_lem(?=\d*$)", "", it)).lower()
+# Where --prune leaves what stays open.
+OPEN = os.path.join(tempfile.gettempdir(), "open")
 LEFT = []
 
 
@@ -983,11 +986,11 @@ def of_git(root, crate, at, new, home):
 
 
 def prune(crate, root, given=None):
-    os.makedirs("/tmp/open", exist_ok=True)
+    os.makedirs(OPEN, exist_ok=True)
     taken, tried, stuck, said, added, again = {}, set(), [], "", {}, {}
     names = None
     # what an earlier run took out, where it is still not answered
-    memory = f"/tmp/open/{crate}.taken.json"
+    memory = f"{OPEN}/{crate}.taken.json"
     if os.path.isfile(memory):
         for at, name, old, why in json.loads(read(memory)):
             path = f"{root}/crates/{crate}/proofs/{at}/Answers.antt"
@@ -1060,7 +1063,7 @@ def prune(crate, root, given=None):
     for path in {f"{root}/crates/{crate}/proofs/{at}/Answers.antt" for at, _ in taken}:
         if os.path.isfile(path) and not declared(read(path)):
             os.remove(path)
-    write(f"/tmp/open/{crate}.check", said)
+    write(f"{OPEN}/{crate}.check", said)
     state = "proved" if re.findall(r"(?m)^logic=(\S+)", said)[-1:] == ["proved"] else "not proved"
     functions = re.findall(r"(?m)^fn (%s::\S+): (proved|not proved|no proof[^\n]*|could not tell)" % crate, said)
     lines = [f"{crate}: {state}; {sum(b == 'proved' for _, b in functions)} of {len(functions)} functions proved"]
@@ -1079,8 +1082,8 @@ def prune(crate, root, given=None):
     lines += ["", *dict.fromkeys(stuck)]
     others = re.findall(r"(?m)^\S+:\d+:\d+: error: [^\n]*", said)
     lines += ["", "errors of the last check:", *others] if others else []
-    write(f"/tmp/open/{crate}.txt", "\n".join(lines) + "\n")
-    print(lines[0] + f"; see /tmp/open/{crate}.txt")
+    write(f"{OPEN}/{crate}.txt", "\n".join(lines) + "\n")
+    print(lines[0] + f"; see {OPEN}/{crate}.txt")
     for (at, name), (_, why) in taken.items():
         print(f"  taken out: {at}: {name}: {one_line(why)[:160]}")
 
@@ -1091,7 +1094,7 @@ def names_of(crate, root, given):
         for p in (f"{given}/crates/{crate}/names.json", f"{given}/{crate}/names.json", f"{given}/names.json"):
             if os.path.isfile(p):
                 return json.loads(read(p))
-    to = f"/tmp/turn_proofs-{os.getuid()}/{crate}"
+    to = f"{tempfile.gettempdir()}/turn_proofs-{os.getuid()}/{crate}"
     os.makedirs(to, exist_ok=True)
     if os.path.isfile(f"{to}/names.json"):
         os.remove(f"{to}/names.json")
@@ -1122,7 +1125,7 @@ def with_auto(crate, root):
 def turn(crate, root, given):
     files = [p for p in sorted(glob.glob(f"{root}/crates/{crate}/proofs/**/Proof.antt", recursive=True)) if "tie.close" in read(p)]
     with_auto(crate, root)
-    memory = f"/tmp/open/{crate}.taken.json"
+    memory = f"{OPEN}/{crate}.taken.json"
     if files and os.path.isfile(memory):
         os.remove(memory)
     if not files:
