@@ -8,15 +8,7 @@ import glob
 import re
 import sys
 
-
-def read(path):
-    with open(path, encoding="utf-8") as f:
-        return f.read()
-
-
-def write(path, text):
-    with open(path, "w", encoding="utf-8") as f:
-        f.write(text)
+from turn_proofs import read, write
 
 
 def empty_list(text):
