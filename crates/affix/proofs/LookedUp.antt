@@ -13,7 +13,8 @@ use Rattle.letters.proofs.Sequences.{length-oriented, oriented-at}
 use Rattle.handle.specs.declared.Handle.{Handle}
 use Rattle.handle.specs.Handle.{id_of, dir_of}
 use Rattle.store.specs.declared.Counts.{Counts}
-use Rattle.store.specs.Graph.{Node, graph_of, nodes_of}
+use Rattle.store.specs.Graph.{graph_of, nodes_of}
+use Rattle.store.specs.declared.Node.{Node}
 use Rattle.store.specs.Views.{named, node_named, spell}
 use Rattle.formed.specs.WellFormed.{good_node, well_formed}
 use Rattle.formed.proofs.Says.{node_says, formed_room, formed_good}

@@ -5,7 +5,8 @@ use Rattle.kit.specs.Loops.{all, distinct}
 use Rattle.letters.specs.Letters.{same_letter, is_base}
 use Rattle.handle.specs.declared.Handle.{Handle}
 use Rattle.handle.specs.Handle.{id_of}
-use Rattle.store.specs.Graph.{Node, Graph, handle}
+use Rattle.store.specs.Graph.{Graph, handle}
+use Rattle.store.specs.declared.Node.{Node}
 use Rattle.store.specs.Views.{live_node, spell}
 
 -- the sequence begins with this letter, case aside

@@ -6,7 +6,8 @@ use Rattle.letters.specs.Sequences.{oriented}
 use Rattle.handle.specs.declared.Handle.{Handle}
 use Rattle.handle.specs.Handle.{id_of, dir_of}
 use Rattle.store.specs.declared.Counts.{Counts}
-use Rattle.store.specs.Graph.{Node, nodes_of}
+use Rattle.store.specs.Graph.{nodes_of}
+use Rattle.store.specs.declared.Node.{Node}
 use Rattle.store.specs.Views.{node_named}
 use Rattle.formed.specs.WellFormed.{good_node}
 use Rattle.affix.specs.declared.Reading.{Reading}

@@ -11,49 +11,37 @@ ghost use Rattle.affix.specs.Prefix.{shared, members_live, members_once, group_p
 ghost use Rattle.affix.specs.Reading.{Readable, reading_of, read, agree};
 
 use handle::Handle;
-use kit::Found;
-use store::Counts;
+use store::{Counts, Node};
 
 pub fn members_live(nodes: &[u64], count: usize, members: &[u64]) -> bool
     requires { 4 * count ≤ length nodes.now }
     ensures { result ≡ members_live (nodes_of count nodes.now) (handles_of members.now) }
 {
-    let mut i: usize = 0;
-    while i < members.len() {
-        let h = Handle { packed: members[i] };
-        if !store::live_node(nodes, count, h.id()) {
-            return false;
-        }
-        i += 1;
-    }
-    true
+    members
+        .iter()
+        .map(|m| Handle { packed: *m })
+        .all(|h| store::live_node(nodes, count, h.id()))
 }
 
 // Whether the node stands among the members from place `start` on, either way round.
 fn member_again(members: &[u64], start: usize, id: u64) -> bool
     ensures { result ≡ any (λ v. eqb id (id_of v)) (drop start (handles_of members.now)) }
 {
-    let mut i = start;
-    while i < members.len() {
-        let h = Handle { packed: members[i] };
-        if id == h.id() {
-            return true;
-        }
-        i += 1;
-    }
-    false
+    members
+        .iter()
+        .map(|m| Handle { packed: *m })
+        .skip(start)
+        .any(|h| id == h.id())
 }
 
 pub fn members_once(members: &[u64]) -> bool
     ensures { result ≡ members_once (handles_of members.now) }
 {
-    let mut i: usize = 0;
-    while i < members.len() {
+    for i in 0..members.len() {
         let h = Handle { packed: members[i] };
         if member_again(members, i + 1, h.id()) {
             return false;
         }
-        i += 1;
     }
     true
 }
@@ -73,16 +61,17 @@ pub fn look_up(nodes: &[u64], count: usize, member: u64) -> Reading
 {
     let h = Handle { packed: member };
     let direction = h.direction();
-    let Found::At(i) = store::find_node(nodes, count, h.id()) else {
+    let Some(i) = store::find_node(nodes, count, h.id()) else {
         return Reading {
             start: 0,
             len: 0,
             direction,
         };
     };
+    let r = Node::at(nodes, i);
     Reading {
-        start: nodes[4 * i + 1] as usize,
-        len: nodes[4 * i + 2] as usize,
+        start: r.start as usize,
+        len: r.len as usize,
         direction,
     }
 }
@@ -100,14 +89,12 @@ fn base_run(text: &[u8], r: Reading) -> usize
     ensures { result ≡ length (shared (read text.now r) []) }
 {
     let len = r.len;
-    let mut n: usize = 0;
-    while n < len {
+    for n in 0..len {
         if !letters::is_base(letter(text, r, n)) {
             return n;
         }
-        n += 1;
     }
-    n
+    len
 }
 
 // How long the first `bound` letters of r agree with those of s.
@@ -116,17 +103,15 @@ fn same_run(text: &[u8], r: Reading, s: Reading, bound: usize) -> usize
     ensures { result ≡ agree (take bound (read text.now r)) (read text.now s) }
 {
     let len = s.len;
-    let mut i: usize = 0;
-    while i < bound {
+    for i in 0..bound {
         if len <= i {
             return i;
         }
         if !letters::same_letter(letter(text, r, i), letter(text, s, i)) {
             return i;
         }
-        i += 1;
     }
-    i
+    bound
 }
 
 // The bases of the first member, cut to what each other member has the same of, the last one first.
@@ -137,9 +122,7 @@ pub fn prefix_len(nodes: &[u64], text: &[u8], c: Counts, members: &[u64]) -> usi
     let count = c.nodes;
     let first = look_up(nodes, count, members[0]);
     let mut n = base_run(text, first);
-    let mut i = members.len();
-    while 1 < i {
-        i -= 1;
+    for i in (1..members.len()).rev() {
         let other = look_up(nodes, count, members[i]);
         n = same_run(text, first, other, n);
     }
@@ -154,9 +137,7 @@ pub fn write_prefix(nodes: &[u64], text: &[u8], c: Counts, member: u64, n: usize
 {
     let count = c.nodes;
     let r = look_up(nodes, count, member);
-    let mut i: usize = 0;
-    while i < n {
+    for i in 0..n {
         out[i] = letter(text, r, i);
-        i += 1;
     }
 }

@@ -1,5 +1,7 @@
 -- enumerate_branch: 01 "Prefix, groups, collapse", groups of v; its numbers are 13, 5, 8 and 7.
-use Rattle.std.specs.Prelude.{ℕ, cond, not, List, eqb, leb, length}
+use Rattle.std.specs.Prelude.{ℕ, cond, not, List, eqb, leb, length, Result, Ok, Err}
+use Rattle.kit.specs.declared.Refusal.{Refusal}
+use Rattle.kit.specs.Refusal.{number}
 use Rattle.handle.specs.Handle.{id_of}
 use Rattle.store.specs.declared.Counts.{Counts}
 use Rattle.store.specs.Graph.{graph_of, handle}
@@ -10,6 +12,11 @@ use Rattle.asking.specs.declared.enumerate_branch.Branch.{Branch}
 
 abbrev pub branch : ℕ → ℕ → Branch
 branch number groups = record { number = number; groups = groups }
+
+-- a refusal tells no groups
+abbrev pub answered : Result ℕ Refusal → Branch
+answered (Ok n) = branch 0 n
+answered (Err why) = branch (number why) 0
 
 -- all that a caller sees: the answer, and the two lent arrays as it finds them
 pub record Outcome : Type 0 where

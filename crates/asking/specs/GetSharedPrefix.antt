@@ -1,6 +1,8 @@
 -- get_shared_prefix: 01 "Prefix, groups, collapse", first entry; its numbers are 13, 5, 8 and 7, in that order.
-use Rattle.std.specs.Prelude.{ℕ, ◌≡◌, cond, not, List, ◌++◌, eqb, ltb, length, drop}
+use Rattle.std.specs.Prelude.{ℕ, ◌≡◌, cond, not, List, ◌++◌, eqb, ltb, length, drop, Result, Ok, Err}
 use Rattle.std.proofs.Common.{sym, ◌∙◌}
+use Rattle.kit.specs.declared.Refusal.{Refusal}
+use Rattle.kit.specs.Refusal.{number}
 use Rattle.store.specs.declared.Counts.{Counts}
 use Rattle.store.specs.Graph.{nodes_of, graph_of}
 use Rattle.formed.specs.WellFormed.{graph_number}
@@ -17,6 +19,11 @@ outcome r out = record { answer = r; room = out }
 
 abbrev pub answer : ℕ → ℕ → SharedPrefix
 answer number n = record { number = number; length = n }
+
+-- a refusal tells no length
+abbrev pub answered : Result ℕ Refusal → SharedPrefix
+answered (Ok n) = answer 0 n
+answered (Err why) = answer (number why) 0
 
 abbrev pub refused : ℕ → List ℕ → Outcome
 refused number out = outcome (answer number 0) out

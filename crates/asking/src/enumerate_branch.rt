@@ -1,10 +1,12 @@
 // The groups of an oriented node.
 ghost use Rattle.std.specs.Prelude.{◌≡◌};
-ghost use Rattle.asking.specs.EnumerateBranch.{branch, outcome, branch_outcome};
+ghost use Rattle.asking.specs.EnumerateBranch.{answered, outcome, branch_outcome};
 
 use handle::Handle;
+use kit::Refusal;
 use store::Counts;
 
+// C gets it, so 01's number stands in it.
 #[repr(C)]
 #[derive(Clone, Copy)]
 pub struct Branch {
@@ -12,11 +14,32 @@ pub struct Branch {
     pub groups: usize,
 }
 
-// A refusal tells no groups.
-fn refuse(number: u64) -> Branch
-    ensures { result ≡ branch number 0 }
+// How many groups there are. Room is tested before anything is written, so that a refusal changes nothing.
+fn give(
+    nodes: &[u64],
+    text: &[u8],
+    links: &[u64],
+    c: Counts,
+    v: u64,
+    members: &mut [u64],
+    ends: &mut [u64],
+) -> Result<usize, Refusal>
+    ensures { outcome (answered result) members.new ends.new ≡ branch_outcome nodes.now text.now links.now c v members.old ends.old }
 {
-    Branch { number, groups: 0 }
+    formed::graph_number(nodes, text, links, c)?;
+    let branch = Handle { packed: v };
+    if !store::live_node(nodes, c.nodes, branch.id()) {
+        return Err(Refusal::Group);
+    }
+    if members.len() < sides::count_right(nodes, links, c, branch) {
+        return Err(Refusal::Room);
+    }
+    let count = groups::count_groups(nodes, text, links, c, branch);
+    if ends.len() < count {
+        return Err(Refusal::Room);
+    }
+    groups::write_groups(nodes, text, links, c, branch, members, ends);
+    Ok(count)
 }
 
 pub fn enumerate_branch(
@@ -30,24 +53,11 @@ pub fn enumerate_branch(
 ) -> Branch
     ensures { outcome result members.new ends.new ≡ branch_outcome nodes.now text.now links.now c v members.old ends.old }
 {
-    let number = formed::graph_number(nodes, text, links, c);
-    if number != 0 {
-        return refuse(number);
-    }
-    let branch = Handle { packed: v };
-    if !store::live_node(nodes, c.nodes, branch.id()) {
-        return refuse(8);
-    }
-    if members.len() < sides::count_right(nodes, links, c, branch) {
-        return refuse(7);
-    }
-    let count = groups::count_groups(nodes, text, links, c, branch);
-    if ends.len() < count {
-        return refuse(7);
-    }
-    groups::write_groups(nodes, text, links, c, branch, members, ends);
-    Branch {
-        number: 0,
-        groups: count,
+    match give(nodes, text, links, c, v, members, ends) {
+        Ok(groups) => Branch { number: 0, groups },
+        Err(why) => Branch {
+            number: why.number(),
+            groups: 0,
+        },
     }
 }

@@ -4,6 +4,7 @@ ghost use Rattle.asking.specs.LiveLetters.{letter_total};
 
 use store::Counts;
 
+// C gets it, so 01's number stands in it.
 #[repr(C)]
 #[derive(Clone, Copy)]
 pub struct LetterTotal {
@@ -14,8 +15,8 @@ pub struct LetterTotal {
 pub fn live_letters(nodes: &[u64], text: &[u8], links: &[u64], c: Counts) -> LetterTotal
     ensures { result ≡ letter_total nodes.now text.now links.now c }
 {
-    let number = formed::graph_number(nodes, text, links, c);
-    if number != 0 {
+    if let Err(why) = formed::graph_number(nodes, text, links, c) {
+        let number = why.number();
         return LetterTotal { number, total: 0 };
     }
     let total = store::live_letters(nodes, c.nodes);

@@ -6,52 +6,34 @@ use mathlib.Core.List.{List, [], ◌∷◌}
 use native.Mathlib.Nat.{add-zero}
 use native.Mathlib.Numerals.{add-one}
 use native.Mathlib.Omega.{arith}
-use borrow.Author.Tests.{eq-eqb, ne_eqb, le-leb, lt-leb, leb-true, leb-false}
-use lib.Dec.{eqb, leb}
+use borrow.Author.Tests.{leb-true, leb-false}
+use lib.Dec.{leb}
 use lib.ListN.{length, take, drop, get_or, length-drop, length-take, drop_of_length-le}
 use lib.Seq.{drop-cons, drop-drop, drop-nil, get_or-drop, get_or-take, take_all}
-use Rattle.kit.specs.declared.Found.TheVariants.{At, Nothing}
-use Rattle.cases.specs.Parts.{number_kind, size_of, item_end, rest_of, elements_of}
+use Rattle.std.specs.Prelude.{Some, None}
+use Rattle.cases.specs.declared.parts.Kind.{Kind}
+use Rattle.cases.specs.Parts.{kind_of, size_of, item_end, rest_of, elements_of}
 
 -- the number at a place is the first of what is left there
 pub first-at : (xs : List ℕ) (at : ℕ) → get_or (drop at xs) 0 0 ≡ get_or xs at 0
 first-at xs at = get_or-drop at xs 0 0 ∙ ap (λ (n : ℕ). get_or xs n 0) (add-zero at)
 
-module _ (kind : ℕ) (xs : List ℕ) where
-  pub size_number : kind ≡ number_kind → size_of kind xs ≡ 1
-  size_number e = rw (eq-eqb kind number_kind e)
-
-  pub size_array : (kind ≡ number_kind → ⊥) → size_of kind xs ≡ 1 + get_or xs 0 0
-  size_array e = rw (ne_eqb kind number_kind e)
-
-  some : (b : Bool) (n : ℕ) → 1 ≤ cond b 1 (1 + n)
-  some true n = omega arith
-  some false n = omega arith
-
-  pub size_some : 1 ≤ size_of kind xs
-  size_some = some (eqb kind number_kind) (get_or xs 0 0)
-
-  pub end_inside : (at n : ℕ) → size_of kind xs ≡ n → n ≤ length xs → item_end kind at xs ≡ At (at + n)
-  end_inside at n e h = rw (le-leb (size_of kind xs) (length xs) (omega arith), e)
-
-  pub end_past : (at : ℕ) → length xs < size_of kind xs → item_end kind at xs ≡ Nothing
-  end_past at h = rw (lt-leb (size_of kind xs) (length xs) h)
-
+module _ (kind : Kind) (xs : List ℕ) where
   -- what the answer tells
-  inside : (b : Bool) (at n k : ℕ) → cond b (At (at + n)) Nothing ≡ At k → (b ≡ true) × (k ≡ at + n)
+  inside : (b : Bool) (at n k : ℕ) → cond b (Some (at + n)) None ≡ Some k → (b ≡ true) × (k ≡ at + n)
   inside true at n k e = (refl, cc)
   inside false at n k e = let z : ◌≡◌ {A = ℕ} 0 1 = cc in absurd (omega arith)
 
-  past : (b : Bool) (k : ℕ) → cond b (At k) Nothing ≡ Nothing → b ≡ false
+  past : (b : Bool) (k : ℕ) → cond b (Some k) None ≡ None → b ≡ false
   past true k e = let z : ◌≡◌ {A = ℕ} 0 1 = cc in absurd (omega arith)
   past false k e = refl
 
-  pub at-inside : (at k : ℕ) → item_end kind at xs ≡ At k → (size_of kind xs ≤ length xs) × (k ≡ at + size_of kind xs)
+  pub at-inside : (at k : ℕ) → item_end kind at xs ≡ Some k → (size_of kind xs ≤ length xs) × (k ≡ at + size_of kind xs)
   at-inside at k e =
       let i = inside (leb (size_of kind xs) (length xs)) at (size_of kind xs) k e in
       (leb-true (size_of kind xs) (length xs) i.0, i.1)
 
-  pub nothing_past : (at : ℕ) → item_end kind at xs ≡ Nothing → length xs < size_of kind xs
+  pub nothing_past : (at : ℕ) → item_end kind at xs ≡ None → length xs < size_of kind xs
   nothing_past at e = leb-false (size_of kind xs) (length xs) (past (leb (size_of kind xs) (length xs)) (at + size_of kind xs) e)
 
 -- a shape at its place i
@@ -60,24 +42,24 @@ kinds_more shape i h = rw (add-one, drop-cons shape i 0 h)
 
 pub rest_nil : (shape : List ℕ) → rest_of shape [] ≡ []
 rest_nil [] = refl
-rest_nil (s ∷ ss) = ap (λ (l : List ℕ). rest_of ss l) (drop-nil (size_of s [])) ∙ rest_nil ss
+rest_nil (s ∷ ss) = ap (λ (l : List ℕ). rest_of ss l) (drop-nil (size_of (kind_of s) [])) ∙ rest_nil ss
 
 module _ (xs shape : List ℕ) (k i at : ℕ) where
   before_more : i < k → i < length shape → drop i (take k shape) ≡ get_or shape i 0 ∷ drop (i + 1) (take k shape)
   before_more h j = kinds_more (take k shape) i (omega (arith, length-take k shape)) ∙ rw (get_or-take k shape i 0 h)
 
   -- the item fits, and the next one begins where it ends
-  pub rest_more : (e : ℕ) → i < k → i < length shape → item_end (get_or shape i 0) at (drop at xs) ≡ At e → rest_of (drop (i + 1) (take k shape)) (drop e xs) ≡ rest_of (drop i (take k shape)) (drop at xs)
+  pub rest_more : (e : ℕ) → i < k → i < length shape → item_end (kind_of (get_or shape i 0)) at (drop at xs) ≡ Some e → rest_of (drop (i + 1) (take k shape)) (drop e xs) ≡ rest_of (drop i (take k shape)) (drop at xs)
   rest_more e h j t =
-      let s = size_of (get_or shape i 0) (drop at xs) in
-      let n : drop s (drop at xs) ≡ drop e xs = drop-drop s at xs ∙ ap (λ (m : ℕ). drop m xs) (sym (at-inside (get_or shape i 0) (drop at xs) at e t).1) in
+      let s = size_of (kind_of (get_or shape i 0)) (drop at xs) in
+      let n : drop s (drop at xs) ≡ drop e xs = drop-drop s at xs ∙ ap (λ (m : ℕ). drop m xs) (sym (at-inside (kind_of (get_or shape i 0)) (drop at xs) at e t).1) in
       sym (ap (λ (l : List ℕ). rest_of l (drop at xs)) (before_more h j) ∙ ap (λ (l : List ℕ). rest_of (drop (i + 1) (take k shape)) l) n)
 
   -- it does not, and nothing is left
-  pub rest_past : i < k → i < length shape → item_end (get_or shape i 0) at (drop at xs) ≡ Nothing → drop (length xs) xs ≡ rest_of (drop i (take k shape)) (drop at xs)
+  pub rest_past : i < k → i < length shape → item_end (kind_of (get_or shape i 0)) at (drop at xs) ≡ None → drop (length xs) xs ≡ rest_of (drop i (take k shape)) (drop at xs)
   rest_past h j t =
-      let s = size_of (get_or shape i 0) (drop at xs) in
-      let n : drop s (drop at xs) ≡ [] = drop_of_length-le (drop at xs) {i = s} (omega (arith, nothing_past (get_or shape i 0) (drop at xs) at t)) in
+      let s = size_of (kind_of (get_or shape i 0)) (drop at xs) in
+      let n : drop s (drop at xs) ≡ [] = drop_of_length-le (drop at xs) {i = s} (omega (arith, nothing_past (kind_of (get_or shape i 0)) (drop at xs) at t)) in
       drop_of_length-le xs {i = length xs} (omega arith)
       ∙ sym (ap (λ (l : List ℕ). rest_of l (drop at xs)) (before_more h j) ∙ ap (λ (l : List ℕ). rest_of (drop (i + 1) (take k shape)) l) n ∙ rest_nil (drop (i + 1) (take k shape)))
 

@@ -1,4 +1,3 @@
 pub mod Copying
 pub mod Items
 pub mod Tests
-pub mod Words

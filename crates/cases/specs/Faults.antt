@@ -1,71 +1,71 @@
 -- What is wrong with a case (docs/REPLAY.md, "Answers"): the tests in their order, the first that fails is said.
-use Rattle.std.specs.Prelude.{ℕ, min, Bool, cond, List, [], ◌∷◌, eqb, leb, ltb, length, drop}
+use Rattle.std.specs.Prelude.{ℕ, Bool, cond, List, [], ◌∷◌, leb, ltb, length, drop, Option, Some, None}
 use Rattle.kit.specs.Loops.{any}
-use Rattle.cases.specs.Parts.{number_kind, size_of, elements_of}
-
--- the bytes t, b, r, w and s
-abbrev pub letter_kind : ℕ
-letter_kind = 116
-
-abbrev pub byte_kind : ℕ
-byte_kind = 98
-
-abbrev pub room_kind : ℕ
-room_kind = 114
-
-abbrev pub wide_kind : ℕ
-wide_kind = 119
-
-abbrev pub small_kind : ℕ
-small_kind = 115
-
-abbrev pub bad_numbers : ℕ
-bad_numbers = 0
-
-abbrev pub bad_end : ℕ
-bad_end = 1
-
-abbrev pub bad_letters : ℕ
-bad_letters = 2
-
-abbrev pub bad_room : ℕ
-bad_room = 3
-
-abbrev pub fine : ℕ
-fine = 4
+use Rattle.cases.specs.declared.parts.Kind.{Kind}
+use Rattle.cases.specs.declared.parts.Kind.TheVariants.{Number, Array, Text, Bytes, Room, Wide, Small}
+use Rattle.cases.specs.declared.faults.Fault.{Fault}
+use Rattle.cases.specs.declared.faults.Fault.TheVariants.{BadNumbers, BadEnd, BadLetters, BadRoom}
+use Rattle.cases.specs.Parts.{kind_of, size_of, elements_of}
 
 -- how many elements can be lent; an array that is only read is bounded by the case
-abbrev pub most_of : ℕ → ℕ
-most_of kind =
-    cond (eqb kind letter_kind) 131072
-    (cond (eqb kind wide_kind) 131072
-    (cond (eqb kind byte_kind) 65536
-    (cond (eqb kind room_kind) 65536
-    (cond (eqb kind small_kind) 16384 393216))))
+abbrev pub most_of : Kind → ℕ
+most_of Number = 393216
+most_of Array = 393216
+most_of Text = 131072
+most_of Bytes = 65536
+most_of Room = 65536
+most_of Wide = 131072
+most_of Small = 16384
 
-abbrev pub length_fault : ℕ → ℕ → ℕ
-length_fault kind n = cond (leb n (most_of kind)) fine (cond (eqb kind letter_kind) bad_letters bad_room)
+abbrev pub long_fault : Kind → Fault
+long_fault Number = BadRoom
+long_fault Array = BadRoom
+long_fault Text = BadLetters
+long_fault Bytes = BadRoom
+long_fault Room = BadRoom
+long_fault Wide = BadRoom
+long_fault Small = BadRoom
+
+abbrev pub length_fault : Kind → ℕ → Option Fault
+length_fault kind n = cond (leb n (most_of kind)) None (Some (long_fault kind))
 
 abbrev pub above_byte : ℕ → Bool
 above_byte n = ltb 255 n
 
-abbrev pub byte_fault : List ℕ → ℕ
-byte_fault xs = cond (any above_byte xs) bad_letters fine
+abbrev pub byte_fault : List ℕ → Option Fault
+byte_fault xs = cond (any above_byte xs) (Some BadLetters) None
 
-abbrev pub bytes_fault : ℕ → List ℕ → ℕ
-bytes_fault kind xs = min (length_fault kind (length xs)) (byte_fault xs)
+-- the order of the tests
+abbrev pub place_of : Fault → ℕ
+place_of BadNumbers = 0
+place_of BadEnd = 1
+place_of BadLetters = 2
+place_of BadRoom = 3
 
-abbrev pub item_fault : ℕ → List ℕ → ℕ
-item_fault kind xs =
-    cond (eqb kind number_kind) fine
-    (cond (eqb kind letter_kind) (bytes_fault kind xs)
-    (cond (eqb kind byte_kind) (bytes_fault kind xs) (length_fault kind (length xs))))
+-- the fault whose test comes first
+abbrev pub sooner_of : Option Fault → Option Fault → Option Fault
+sooner_of None b = b
+sooner_of (Some f) None = Some f
+sooner_of (Some f) (Some g) = Some (cond (ltb (place_of g) (place_of f)) g f)
+
+abbrev pub bytes_fault : Kind → List ℕ → Option Fault
+bytes_fault kind xs = sooner_of (length_fault kind (length xs)) (byte_fault xs)
+
+abbrev pub item_fault : Kind → List ℕ → Option Fault
+item_fault Number xs = None
+item_fault Array xs = length_fault Array (length xs)
+item_fault Text xs = bytes_fault Text xs
+item_fault Bytes xs = bytes_fault Bytes xs
+item_fault Room xs = length_fault Room (length xs)
+item_fault Wide xs = length_fault Wide (length xs)
+item_fault Small xs = length_fault Small (length xs)
 
 -- `worst` is what the items before say
-abbrev pub fault_from : ℕ → List ℕ → List ℕ → ℕ
-fault_from worst [] xs = cond (leb 1 (length xs)) bad_end worst
+abbrev pub fault_from : Option Fault → List ℕ → List ℕ → Option Fault
+fault_from worst [] xs = cond (leb 1 (length xs)) (Some BadEnd) worst
 fault_from worst (s ∷ ss) xs =
-    cond (leb (size_of s xs) (length xs)) (fault_from (min worst (item_fault s (elements_of xs))) ss (drop (size_of s xs) xs)) bad_numbers
+    let size = size_of (kind_of s) xs in
+    cond (leb size (length xs)) (fault_from (sooner_of worst (item_fault (kind_of s) (elements_of xs))) ss (drop size xs)) (Some BadNumbers)
 
-abbrev pub fault_of : List ℕ → List ℕ → ℕ
-fault_of shape xs = fault_from fine shape xs
+abbrev pub fault_of : List ℕ → List ℕ → Option Fault
+fault_of shape xs = fault_from None shape xs

@@ -1,27 +1,42 @@
 -- The items of a case (docs/REPLAY.md, "Lines" and "Shapes"): a number, or an array, which is its length and then its
 -- elements. A shape has one byte for each item.
-use Rattle.std.specs.Prelude.{ℕ, ◌+◌, ◌%◌, cond, List, [], ◌∷◌, eqb, leb, length, take, drop, get_or}
-use Rattle.kit.specs.declared.Found.{Found}
-use Rattle.kit.specs.declared.Found.TheVariants.{At, Nothing}
+use Rattle.std.specs.Prelude.{ℕ, ◌+◌, ◌%◌, cond, List, [], ◌∷◌, eqb, leb, length, take, drop, get_or, Option, Some, None}
 use Rattle.store.specs.declared.Counts.{Counts}
+use Rattle.cases.specs.declared.parts.Kind.{Kind}
+use Rattle.cases.specs.declared.parts.Kind.TheVariants.{Number, Array, Text, Bytes, Room, Wide, Small}
 use Rattle.events.specs.declared.Used.{Used}
 
--- the byte n
-abbrev pub number_kind : ℕ
-number_kind = 110
+-- what a byte of a shape says: n, t, b, r, w, s, or any other
+abbrev pub kind_of : ℕ → Kind
+kind_of b =
+    cond (eqb b 110) Number
+    (cond (eqb b 116) Text
+    (cond (eqb b 98) Bytes
+    (cond (eqb b 114) Room
+    (cond (eqb b 119) Wide
+    (cond (eqb b 115) Small Array)))))
 
--- how many numbers the item at the front takes
-abbrev pub size_of : ℕ → List ℕ → ℕ
-size_of kind xs = cond (eqb kind number_kind) 1 (1 + get_or xs 0 0)
+-- how many numbers an array at the front takes, and an item
+abbrev pub array_size : List ℕ → ℕ
+array_size xs = 1 + get_or xs 0 0
+
+abbrev pub size_of : Kind → List ℕ → ℕ
+size_of Number xs = 1
+size_of Array xs = array_size xs
+size_of Text xs = array_size xs
+size_of Bytes xs = array_size xs
+size_of Room xs = array_size xs
+size_of Wide xs = array_size xs
+size_of Small xs = array_size xs
 
 -- where it ends, if it begins at a place
-abbrev pub item_end : ℕ → ℕ → List ℕ → Found
-item_end kind at xs = cond (leb (size_of kind xs) (length xs)) (At (at + size_of kind xs)) Nothing
+abbrev pub item_end : Kind → ℕ → List ℕ → Option ℕ
+item_end kind at xs = cond (leb (size_of kind xs) (length xs)) (Some (at + size_of kind xs)) None
 
 -- what comes after the items of a shape
 abbrev pub rest_of : List ℕ → List ℕ → List ℕ
 rest_of [] xs = xs
-rest_of (s ∷ ss) xs = rest_of ss (drop (size_of s xs) xs)
+rest_of (s ∷ ss) xs = rest_of ss (drop (size_of (kind_of s) xs) xs)
 
 -- the elements of the array at the front
 abbrev pub elements_of : List ℕ → List ℕ

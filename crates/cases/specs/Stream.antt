@@ -1,19 +1,16 @@
 -- What is read of the input, which comes through a buffer that is filled again and again.
-use Rattle.std.specs.Prelude.{ℕ, ◌+◌, ◌-◌, ◌<◌, ◌≤◌, ◌≡◌, Bool, true, cond, ◌||◌, List, eqb, length, get_or}
+use Rattle.std.specs.Prelude.{ℕ, ◌+◌, ◌-◌, ◌<◌, ◌≤◌, ◌≡◌, Bool, true, cond, List, eqb, length, get_or, Option, Some, None}
 use Rattle.cases.specs.declared.stream.Source.{Source}
 
--- past the end of the input
-abbrev pub input_end : ℕ
-input_end = 256
-
--- byte 10 ends a line, and so does the end of the input
-abbrev pub line_ends : ℕ → Bool
-line_ends last = eqb last 10 || eqb last input_end
+-- byte 10 ends a line, and so does the end of the input, past which there is no byte
+abbrev pub line_ends : Option ℕ → Bool
+line_ends None = true
+line_ends (Some b) = eqb b 10
 
 -- the place is inside the buffer, and the byte read last stands before it
 pub record Standing (r : Source) (buf : List ℕ) : Type 0 where
   pub inside : r.at ≤ length buf
-  pub byte : r.last ≡ cond (eqb r.at 0) input_end (get_or buf (r.at - 1) 0)
+  pub byte : r.last ≡ cond (eqb r.at 0) None (Some (get_or buf (r.at - 1) 0))
 
 -- one byte more; while there are bytes unread the buffer stays as it is
 pub record Advanced (before : List ℕ) (s : Source) (buf : List ℕ) (r : Source) : Type 0 where

@@ -1,28 +1,15 @@
 // The arrays that an operation is lent: an item of a case put at the front of an array, and that part handed back. As
 // much of it as there is room for.
-ghost use Rattle.std.specs.Prelude.{min, ◌≡◌, map, length, take};
+ghost use Rattle.std.specs.Prelude.{◌≡◌, map, length, take};
 ghost use Rattle.cases.specs.Parts.{array_at, low_byte};
 
 use crate::parts;
 
-fn smaller(a: usize, b: usize) -> usize
-    ensures { result ≡ min a b }
-{
-    if b < a {
-        return b;
-    }
-    a
-}
-
 fn copy<'a>(from: &[u64], to: &'a mut [u64]) -> &'a mut [u64]
     ensures { result.now ≡ take (length to.old) from.now }
 {
-    let n = smaller(from.len(), to.len());
-    let mut i: usize = 0;
-    while i < n {
-        to[i] = from[i];
-        i += 1;
-    }
+    let n = from.len().min(to.len());
+    to[..n].copy_from_slice(&from[..n]);
     &mut to[..n]
 }
 
@@ -30,11 +17,9 @@ fn copy<'a>(from: &[u64], to: &'a mut [u64]) -> &'a mut [u64]
 fn narrow<'a>(from: &[u64], to: &'a mut [u8]) -> &'a mut [u8]
     ensures { result.now ≡ map low_byte (take (length to.old) from.now) }
 {
-    let n = smaller(from.len(), to.len());
-    let mut i: usize = 0;
-    while i < n {
+    let n = from.len().min(to.len());
+    for i in 0..n {
         to[i] = (from[i] % 256) as u8;
-        i += 1;
     }
     &mut to[..n]
 }
@@ -43,11 +28,9 @@ fn narrow<'a>(from: &[u64], to: &'a mut [u8]) -> &'a mut [u8]
 pub fn widen<'a>(from: &[u8], to: &'a mut [u64]) -> &'a mut [u64]
     ensures { result.now ≡ take (length to.old) from.now }
 {
-    let n = smaller(from.len(), to.len());
-    let mut i: usize = 0;
-    while i < n {
+    let n = from.len().min(to.len());
+    for i in 0..n {
         to[i] = from[i] as u64;
-        i += 1;
     }
     &mut to[..n]
 }

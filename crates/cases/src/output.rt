@@ -2,7 +2,9 @@
 ghost use Rattle.std.specs.Prelude.{◌-◌, ◌+◌, ◌≤◌, ◌<◌, length};
 ghost use Rattle.cases.specs.Answers.{Room};
 
-use crate::{faults, lend, parts};
+use crate::faults::Fault;
+use crate::parts::Kind;
+use crate::{lend, parts};
 use events::Used;
 use store::Counts;
 
@@ -75,14 +77,13 @@ fn run(numbers: &[u64], i: usize) -> usize
     requires { i < length numbers.now }
     ensures { (0 < result) × (i + result ≤ length numbers.now) }
 {
-    let mut n: usize = 1;
-    while n < numbers.len() - i {
+    let most = numbers.len() - i;
+    for n in 1..most {
         if numbers[i + n] != numbers[i] {
             return n;
         }
-        n += 1;
     }
-    n
+    most
 }
 
 // A space and a number, with `*` and how often it stands where that is more than once.
@@ -105,6 +106,7 @@ pub fn put_elements(rt: &impl Print, out: &mut [u8], at: usize, numbers: &[u64])
 {
     let mut to = at;
     let mut i: usize = 0;
+    // The place moves by a run's length, so it is no count.
     while i < numbers.len() {
         let n = run(numbers, i);
         to = put_run(rt, out, to, numbers[i], n as u64);
@@ -135,10 +137,8 @@ pub fn put_given(
     ensures { Room result out.new }
 {
     let mut to = at;
-    let mut i: usize = 0;
-    while i < k {
+    for i in 0..k {
         to = put_item(rt, out, to, numbers, shape, i);
-        i += 1;
     }
     to
 }
@@ -156,7 +156,7 @@ pub fn put_item(
     ensures { Room result out.new }
 {
     if i < shape.len() {
-        if shape[i] == parts::NUMBER {
+        if Kind::from(shape[i]) == Kind::Number {
             return at;
         }
     }
@@ -187,26 +187,20 @@ pub fn put_text(rt: &impl Print, out: &mut [u8], at: usize, text: &[u8]) -> usiz
     ensures { Room result out.new }
 {
     let mut to = at;
-    let mut i: usize = 0;
-    while i < text.len() {
-        to = put_byte(rt, out, to, text[i]);
-        i += 1;
+    for b in text {
+        to = put_byte(rt, out, to, *b);
     }
     to
 }
 
-pub fn put_fault(rt: &impl Print, out: &mut [u8], at: usize, fault: u64) -> usize
+pub fn put_fault(rt: &impl Print, out: &mut [u8], at: usize, fault: Fault) -> usize
     requires { Room at out.old }
     ensures { Room result out.new }
 {
-    if fault == faults::BAD_NUMBERS {
-        return put_text(rt, out, at, b"bad numbers\n");
+    match fault {
+        Fault::BadNumbers => put_text(rt, out, at, b"bad numbers\n"),
+        Fault::BadEnd => put_text(rt, out, at, b"bad end\n"),
+        Fault::BadLetters => put_text(rt, out, at, b"bad letters\n"),
+        Fault::BadRoom => put_text(rt, out, at, b"bad room\n"),
     }
-    if fault == faults::BAD_END {
-        return put_text(rt, out, at, b"bad end\n");
-    }
-    if fault == faults::BAD_LETTERS {
-        return put_text(rt, out, at, b"bad letters\n");
-    }
-    put_text(rt, out, at, b"bad room\n")
 }

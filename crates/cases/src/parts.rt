@@ -1,28 +1,52 @@
 // The items of a case: a number, or an array, which is its length and then its elements. A shape has one byte for each
 // item (docs/REPLAY.md, "Shapes").
 ghost use Rattle.std.specs.Prelude.{◌≤◌, ◌≡◌, length, take, drop};
-ghost use Rattle.cases.specs.Parts.{item_end, rest_of, elements_of, array_at, number_at, counts_at, used_at};
+ghost use Rattle.cases.specs.Parts.{kind_of, item_end, rest_of, elements_of, array_at, number_at, counts_at, used_at};
 
 use events::Used;
-use kit::Found;
 use store::Counts;
 
-pub const NUMBER: u8 = b'n';
+// What an item is: a number, an array that is only read, text or the letters of a graph, bytes of room, room for
+// numbers, more of it, and less, for an operation that needs much memory itself.
+#[derive(Clone, Copy, PartialEq, Eq)]
+pub enum Kind {
+    Number,
+    Array,
+    Text,
+    Bytes,
+    Room,
+    Wide,
+    Small,
+}
+
+impl From<u8> for Kind {
+    ghost from_gives = { λ b k. k ≡ kind_of b };
+
+    fn from(b: u8) -> Kind {
+        match b {
+            b'n' => Kind::Number,
+            b't' => Kind::Text,
+            b'b' => Kind::Bytes,
+            b'r' => Kind::Room,
+            b'w' => Kind::Wide,
+            b's' => Kind::Small,
+            _ => Kind::Array,
+        }
+    }
+}
 
 // Where the item at a place ends; nothing where it runs past the numbers.
-pub fn item_end(numbers: &[u64], at: usize, kind: u8) -> Found
+pub fn item_end(numbers: &[u64], at: usize, kind: Kind) -> Option<usize>
     ensures { result ≡ item_end kind at (drop at numbers.now) }
 {
     if numbers.len() <= at {
-        return Found::Nothing;
+        return None;
     }
-    if kind == NUMBER {
-        return Found::At(at + 1);
+    match kind {
+        Kind::Number => Some(at + 1),
+        _ if ((numbers.len() - at - 1) as u64) < numbers[at] => None,
+        _ => Some(at + (1 + numbers[at]) as usize),
     }
-    if ((numbers.len() - at - 1) as u64) < numbers[at] {
-        return Found::Nothing;
-    }
-    Found::At(at + (1 + numbers[at]) as usize)
 }
 
 // The elements of the array at a place, as far as there are numbers.
@@ -45,16 +69,14 @@ fn place(numbers: &[u64], shape: &[u8], k: usize) -> usize
     ensures { drop result numbers.now ≡ rest_of (take k shape.now) numbers.now }
 {
     let mut at: usize = 0;
-    let mut i: usize = 0;
-    while i < k {
+    for i in 0..k {
         if shape.len() <= i {
             return at;
         }
-        let Found::At(end) = item_end(numbers, at, shape[i]) else {
+        let Some(end) = item_end(numbers, at, Kind::from(shape[i])) else {
             return numbers.len();
         };
         at = end;
-        i += 1;
     }
     at
 }

@@ -5,22 +5,12 @@ ghost use Rattle.cases.specs.Stream.{Standing, Advanced, Skipped, line_ends};
 
 use std::io::Read;
 
-// The unread part of the buffer, and the byte read last: END past the end of the input.
-#[derive(Drop)]
+// The unread part of the buffer, and the byte read last; none past the end of the input.
+#[derive(Clone, Copy)]
 pub struct Source {
     pub at: usize,
     pub end: usize,
-    pub last: u64,
-}
-
-pub const NEWLINE: u64 = 10;
-
-pub const END: u64 = 256;
-
-fn wide(b: u8) -> u64
-    ensures { result ≡ b }
-{
-    b as u64
+    pub last: Option<u8>,
 }
 
 // Standard input from where it stands, until buf is full, the input ends or a read fails; how many bytes stand at its front.
@@ -29,6 +19,7 @@ pub fn read_full(rt: &impl Input, buf: &mut [u8]) -> usize
 {
     let mut reader = rt.reader();
     let mut at: usize = 0;
+    // The place moves by what a read brings, so it is no count.
     while at < buf.len() {
         let Ok(n) = reader.read(&mut buf[at..]) else {
             return at;
@@ -50,20 +41,13 @@ fn refill(rt: &impl Input, buf: &mut [u8]) -> Source
         return Source {
             at: 0,
             end: 0,
-            last: END,
-        };
-    }
-    if buf.len() == 0 {
-        return Source {
-            at: 0,
-            end: 0,
-            last: END,
+            last: None,
         };
     }
     Source {
         at: 1,
         end: got,
-        last: wide(buf[0]),
+        last: Some(buf[0]),
     }
 }
 
@@ -72,24 +56,23 @@ pub fn advance(rt: &impl Input, buf: &mut [u8], s: Source) -> Source
     ensures { Advanced buf.old s buf.new result }
 {
     let at = s.at;
-    let end = s.end;
-    if end <= at {
-        return refill(rt, buf);
-    }
-    if buf.len() <= at {
+    if s.end <= at || buf.len() <= at {
         return refill(rt, buf);
     }
     Source {
         at: at + 1,
-        end,
-        last: wide(buf[at]),
+        end: s.end,
+        last: Some(buf[at]),
     }
 }
 
-pub fn line_ends(last: u64) -> bool
+pub fn line_ends(last: Option<u8>) -> bool
     ensures { result ≡ line_ends last }
 {
-    last == NEWLINE || last == END
+    match last {
+        Some(b) => b == b'\n',
+        None => true,
+    }
 }
 
 // To the end of the line.
@@ -97,13 +80,11 @@ pub fn skip_line(rt: &impl Input, buf: &mut [u8], s: Source) -> Source
     ensures { Skipped s result buf.new }
 {
     let mut source = s;
-    let mut turns: u64 = 0;
-    while turns < 1099511627776 {
+    for turns in 0..1099511627776_u64 {
         if line_ends(source.last) {
             return source;
         }
         source = advance(rt, buf, source);
-        turns += 1;
     }
     source
 }

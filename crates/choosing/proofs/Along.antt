@@ -17,7 +17,8 @@ use Rattle.handle.specs.declared.Handle.{Handle}
 use Rattle.handle.specs.Handle.{is_id, pack, id_of, dir_of}
 use Rattle.handle.proofs.Handles.{handle_eq, id-pack}
 use Rattle.store.specs.declared.Counts.{Counts}
-use Rattle.store.specs.Graph.{Node, nodes_of}
+use Rattle.store.specs.Graph.{nodes_of}
+use Rattle.store.specs.declared.Node.{Node}
 use Rattle.store.specs.Views.{named, unmarked_node, live_here, live_node}
 use Rattle.store.proofs.Fields.{node_at, back_node}
 use Rattle.formed.specs.WellFormed.{well_formed}

@@ -16,7 +16,8 @@ use Rattle.kit.proofs.Members.{in_keep}
 use Rattle.kit.proofs.Writes.{sets-front}
 use Rattle.handle.specs.declared.Handle.{Handle}
 use Rattle.handle.specs.Handle.{id_of}
-use Rattle.store.specs.Graph.{Node, Graph}
+use Rattle.store.specs.Graph.{Graph}
+use Rattle.store.specs.declared.Node.{Node}
 use Rattle.store.specs.Views.{named, stored, live_node}
 use Rattle.sides.specs.Sides.{right_of}
 use Rattle.sides.proofs.Sides.{side_live}

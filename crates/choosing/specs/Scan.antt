@@ -3,7 +3,8 @@ use Rattle.std.specs.Prelude.{ℕ, Bool, not, ◌&&◌, List, [], ◌∷◌, eqb
 use Rattle.kit.specs.Loops.{any, first_or, keep, lines}
 use Rattle.handle.specs.declared.Handle.{Handle}
 use Rattle.handle.specs.Handle.{id_of, pack}
-use Rattle.store.specs.Graph.{Node, Graph}
+use Rattle.store.specs.Graph.{Graph}
+use Rattle.store.specs.declared.Node.{Node}
 use Rattle.store.specs.Views.{unmarked_node}
 use Rattle.sides.specs.Sides.{rising}
 use Rattle.affix.specs.Prefix.{members_once, group_prefix}

@@ -14,7 +14,7 @@ ghost use Rattle.choosing.specs.Scan.{scan_order, is_protected, must_collapse, n
 ghost use Rattle.choosing.specs.Search.{tried, first_group, Front};
 
 use handle::Handle;
-use store::Counts;
+use store::{Counts, Node};
 
 // The lower of both directions of a node, where they are above `above`, and the best so far.
 fn lower_of_both(id: u64, above: u64, best: u64) -> u64
@@ -34,11 +34,10 @@ fn next_scan(nodes: &[u64], count: usize, above: u64) -> u64
     ensures { result ≡ next_above above (scan_order (nodes_of count nodes.now)) }
 {
     let mut best: u64 = 0;
-    let mut i = count;
-    while 0 < i {
-        i -= 1;
-        if nodes[4 * i + 3] == 0 {
-            best = lower_of_both(nodes[4 * i], above, best);
+    for i in (0..count).rev() {
+        let r = Node::at(nodes, i);
+        if r.mark == 0 {
+            best = lower_of_both(r.id, above, best);
         }
     }
     best
@@ -47,15 +46,10 @@ fn next_scan(nodes: &[u64], count: usize, above: u64) -> u64
 fn has_protected(protected: &[u64], members: &[u64]) -> bool
     ensures { result ≡ any (is_protected protected.now) (handles_of members.now) }
 {
-    let mut i: usize = 0;
-    while i < members.len() {
-        let h = Handle { packed: members[i] };
-        if protected::id_from(protected, 0, h.id()) {
-            return true;
-        }
-        i += 1;
-    }
-    false
+    members
+        .iter()
+        .map(|m| Handle { packed: *m })
+        .any(|h| protected::id_from(protected, 0, h.id()))
 }
 
 // Whether two or more members are a group that the driver collapses. No link is read, so the contract names none.

@@ -13,7 +13,7 @@ use Rattle.kit.proofs.Meaning.{all_mem, none_mem, any_some, distinct-first}
 use Rattle.handle.specs.declared.Handle.{Handle}
 use Rattle.handle.specs.Handle.{id_of, pack}
 use Rattle.handle.proofs.Handles.{id-pack}
-use Rattle.store.specs.Graph.{Node}
+use Rattle.store.specs.declared.Node.{Node}
 use Rattle.store.specs.Views.{named, node_named, unmarked_node, live_here, live_node, largest}
 use Rattle.split.proofs.Nodes.{mem_largest}
 use Rattle.affix.specs.Prefix.{members_live, members_once}

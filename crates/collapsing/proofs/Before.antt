@@ -5,16 +5,20 @@ use mathlib.Core.Bool.{Bool, true, false, cond, not, ◌&&◌}
 use mathlib.Core.List.Memᴰ
 use mathlib.Core.List.{List, [], ◌∷◌, map, Memᴰ}
 use native.Mathlib.Omega.{arith}
-use borrow.Author.Tests.{ne_eqb, eqb-false, ltb-false, leb-true, le-leb, not-false}
+use borrow.Author.Tests.{eqb-false, ltb-false, leb-true, le-leb, not-false}
 use lib.Dec.{eqb, ltb, leb}
 use lib.ListN.{length, drop, length-take}
+use Rattle.kit.specs.declared.Refusal.{Refusal}
 use Rattle.kit.specs.Loops.{all, sum, count}
+use Rattle.kit.specs.Refusal.{number}
 use Rattle.kit.proofs.Bools.{and_true_l}
 use Rattle.kit.proofs.Meaning.{all_of}
+use Rattle.kit.proofs.Refusals.{number_not_0}
 use Rattle.letters.proofs.Sequences.{length-oriented}
 use Rattle.handle.specs.declared.Handle.{Handle}
 use Rattle.handle.specs.Handle.{max_id, id_of, dir_of}
-use Rattle.store.specs.Graph.{Node, Graph}
+use Rattle.store.specs.Graph.{Graph}
+use Rattle.store.specs.declared.Node.{Node}
 use Rattle.store.specs.Views.{node_named, len_of, largest, span, spell}
 use Rattle.formed.specs.WellFormed.{good_graph, ids_once}
 use Rattle.affix.specs.Prefix.{members_live, members_once, group_prefix}
@@ -114,9 +118,6 @@ fits_few stride limit n room t = leb-true n limit (and_true_l (leb n limit) (leb
 
 -- the numbers in their order, once the tests before have passed; `es` are the events
 module _ (room : Room) (p : ℕ) (g : Graph) (t : Rules) (ms : List Handle) where
-  pub ready_members : {n : ℕ} → members_number p g ms ≡ n → (n ≡ 0 → ⊥) → ready_number room p (state g t) ms ≡ n
-  ready_members {n} e some = let f = ne_eqb n 0 some in rw (e, f) (rw f)
-
   -- as the code counts: `long` nodes, `more` rules and `long + more` steps are new
   abbrev takes : ℕ → ℕ → Bool
   takes long more =
@@ -130,8 +131,8 @@ module _ (room : Room) (p : ℕ) (g : Graph) (t : Rules) (ms : List Handle) wher
     group_is : group_number p (state g t) ms ≡ list_number (append_all t es)
     group_is = rw (z, events_are p g ms c)
 
-    pub ready_list : {n : ℕ} → list_number (append_all t es) ≡ n → (n ≡ 0 → ⊥) → ready_number room p (state g t) ms ≡ n
-    ready_list {n} e some = rw (group_is, e, ne_eqb n 0 some)
+    pub ready_list : (why : Refusal) → list_number (append_all t es) ≡ number why → ready_number room p (state g t) ms ≡ number why
+    ready_list why e = rw (group_is, e, number_not_0 why)
 
     pub nodes-after : length (collapsed p g ms).nodes ≡ length g.nodes + count (long_by p g.nodes) ms
     nodes-after = ap length (nodes_are p g ms) ∙ count-after p g ms c

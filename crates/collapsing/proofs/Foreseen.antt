@@ -6,9 +6,11 @@ use mathlib.Core.List.{List, [], ◌∷◌, ◌++◌, Memᴰ}
 use lib.Dec.{ltb}
 use Rattle.handle.specs.declared.Handle.{Handle}
 use Rattle.handle.specs.Handle.{id_of}
-use Rattle.store.specs.Graph.{Node, Graph}
+use Rattle.store.specs.Graph.{Graph}
+use Rattle.store.specs.declared.Node.{Node}
 use Rattle.store.specs.Views.{node_named}
-use Rattle.events.specs.Events.{Step, Event, event, step_to, turn_steps}
+use Rattle.events.specs.Events.{Event, event, step_to, turn_steps}
+use Rattle.events.specs.declared.Step.{Step}
 use Rattle.split.specs.Split.{fresh_id}
 use Rattle.merging.specs.Merging.{is_forward, alone, prefix_of, later}
 use Rattle.merging.specs.Plan.{fresh_after, suffix_by}

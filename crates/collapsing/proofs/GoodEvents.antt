@@ -14,13 +14,14 @@ use Rattle.kit.proofs.Meaning.{all_mem, all_of, all_append, any_some}
 use Rattle.handle.specs.declared.Handle.{Handle}
 use Rattle.handle.specs.Handle.{max_id, is_id, is_handle, id_of, pack}
 use Rattle.handle.proofs.Handles.{id-pack}
-use Rattle.store.specs.Graph.{Node}
+use Rattle.store.specs.declared.Node.{Node}
 use Rattle.store.specs.Views.{named, unmarked_node, live_here, live_node, largest}
 use Rattle.formed.specs.WellFormed.{good_node}
 use Rattle.formed.proofs.Says.{node_says}
 use Rattle.affix.specs.Prefix.{members_live}
 use Rattle.events.specs.declared.Used.{Used}
-use Rattle.events.specs.Events.{Rule, Rules, rule, list_of, Event, append, append_all}
+use Rattle.events.specs.Events.{Rules, rule, list_of, Event, append, append_all}
+use Rattle.events.specs.declared.Rule.{Rule}
 use Rattle.events.specs.WellFormed.{room_for_rules, good_rule, good_step, good_table, has_step, table_formed, events_formed}
 use Rattle.events.proofs.Says.{rule_says, says_rule}
 use Rattle.merging.specs.Merging.{is_forward}

@@ -12,7 +12,9 @@ use Rattle.kit.proofs.Bools.{and_true_l, and_true_r}
 use Rattle.kit.proofs.Laws.{length-decode}
 use Rattle.handle.specs.declared.Handle.{Handle}
 use Rattle.store.specs.declared.Counts.{Counts}
-use Rattle.store.specs.Graph.{Node, Link, Graph, node_layout, nodes_of, graph_of}
+use Rattle.store.specs.Graph.{Graph, node_layout, nodes_of, graph_of}
+use Rattle.store.specs.declared.Node.{Node}
+use Rattle.store.specs.declared.Link.{Link}
 use Rattle.store.specs.Views.{named, node_named}
 use Rattle.formed.specs.WellFormed.{good_node, good_graph, well_formed, ids_once, room_for}
 use Rattle.formed.proofs.Says.{Room, node_says, formed_room, formed_good}

@@ -7,7 +7,7 @@ use lib.ListN.{length}
 use Rattle.kit.specs.Loops.{all}
 use Rattle.kit.proofs.Bools.{and_true_l, and_true_r}
 use Rattle.handle.specs.declared.Handle.{Handle}
-use Rattle.store.specs.Graph.{Node}
+use Rattle.store.specs.declared.Node.{Node}
 use Rattle.events.specs.declared.Used.{Used}
 use Rattle.events.specs.Events.{Rules, Event, list_of, append_all}
 use Rattle.events.specs.WellFormed.{room_for_rules, good_rule, good_step, good_table, has_step, table_formed, events_formed, keys_once, in_order}

@@ -9,7 +9,8 @@ use Rattle.kit.proofs.Bools.{and_true_l, and_true_r}
 use Rattle.handle.specs.declared.Handle.{Handle}
 use Rattle.handle.specs.Handle.{max_id}
 use Rattle.store.specs.declared.Counts.{Counts}
-use Rattle.store.specs.Graph.{Node, graph_of}
+use Rattle.store.specs.Graph.{graph_of}
+use Rattle.store.specs.declared.Node.{Node}
 use Rattle.store.specs.Views.{largest}
 use Rattle.formed.specs.WellFormed.{good_node}
 use Rattle.formed.proofs.Says.{node_says}

@@ -11,7 +11,9 @@ use lib.Seq.{take-append-le, drop-append-le, take-length, drop_at}
 use Rattle.kit.specs.Loops.{all}
 use Rattle.kit.proofs.Meaning.{all_mem}
 use Rattle.handle.specs.Handle.{id_of}
-use Rattle.events.specs.Events.{Rule, Step, Rules, rule, walk_of, keyed, Event, append, append_all}
+use Rattle.events.specs.Events.{Rules, rule, walk_of, keyed, Event, append, append_all}
+use Rattle.events.specs.declared.Rule.{Rule}
+use Rattle.events.specs.declared.Step.{Step}
 use Rattle.events.specs.WellFormed.{good_rule, steps_later, in_order_from, in_order}
 use Rattle.events.proofs.Says.{rule_says}
 use Rattle.longer.specs.Ahead.{steps_new}

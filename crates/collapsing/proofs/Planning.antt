@@ -11,11 +11,12 @@ use Rattle.kit.specs.Layout.{encode}
 use Rattle.kit.proofs.Laws.{decode-encode, then-decode, then-length}
 use Rattle.handle.specs.declared.Handle.{Handle}
 use Rattle.handle.specs.Handle.{id_of}
-use Rattle.store.specs.Graph.{Node, Link, link_layout, links_of}
+use Rattle.store.specs.Graph.{link_layout, links_of}
+use Rattle.store.specs.declared.Node.{Node}
+use Rattle.store.specs.declared.Link.{Link}
 use Rattle.store.specs.Views.{largest}
 use Rattle.split.specs.Split.{split_links}
-use Rattle.linking.specs.declared.Made.{Made}
-use Rattle.linking.specs.declared.Made.TheVariants.{Count, Full}
+use Rattle.std.specs.Prelude.{Option, Some, None}
 use Rattle.merging.specs.Plan.{long_by, fresh_after, prefix_by, alone_links, planned}
 use Rattle.linking.specs.Fit.{Makes, fitted}
 use Rattle.linking.proofs.Fitting.{counted, filled}
@@ -29,7 +30,7 @@ module _ (count : ℕ) (ds : List Link) (room mid : List ℕ) (n : length ds ≡
   pub size : 3 * count ≤ length room → length mid ≡ length room
   size h = ap length e ∙ then-length link_layout count ds room n h
 
-  pub planned_in : (f : List Link → List Link) (r : Made) (m : List ℕ) → 3 * count ≤ length room → Makes mid (f (links_of count mid)) r m → Planned room (f ds) r m
+  pub planned_in : (f : List Link → List Link) (r : Option ℕ) (m : List ℕ) → 3 * count ≤ length room → Makes mid (f (links_of count mid)) r m → Planned room (f ds) r m
   planned_in f r m h made =
       let s = size h in
       let k : Makes mid (f ds) r m = subst (λ (rs : List Link). Makes mid (f rs) r m) copied made in
@@ -44,12 +45,12 @@ pub record Fits (l : List ℕ) (rs : List Link) (n : ℕ) (m : List ℕ) : Type 
   pub room : 3 * n ≤ length l
   pub here : links_of n m ≡ rs
 
-pub planned-count : {l m : List ℕ} {rs : List Link} {r : Made} (n : ℕ) → Planned l rs r m → r ≡ Count n → Fits l rs n m
+pub planned-count : {l m : List ℕ} {rs : List Link} {r : Option ℕ} (n : ℕ) → Planned l rs r m → r ≡ Some n → Fits l rs n m
 planned-count {l} {m} {rs} n s e =
     let c = counted l rs n (leb (3 * length rs) (length l)) refl (sym e ∙ s.answer) in
     record { many = c.0; room = c.1; here = rw (← c.0) (s.holds (omega arith)) }
 
-pub planned_full : {l m : List ℕ} {rs : List Link} {r : Made} → Planned l rs r m → r ≡ Full → leb (3 * length rs) (length l) ≡ false
+pub planned_full : {l m : List ℕ} {rs : List Link} {r : Option ℕ} → Planned l rs r m → r ≡ None → leb (3 * length rs) (length l) ≡ false
 planned_full {l} {m} {rs} s e = lt-leb (3 * length rs) (length l) (filled l rs (leb (3 * length rs) (length l)) refl (sym e ∙ s.answer))
 
 -- no link is lost in a plan

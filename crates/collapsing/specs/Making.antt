@@ -8,7 +8,8 @@ use Rattle.store.specs.Graph.{Graph}
 use Rattle.store.specs.Views.{len_of, largest}
 use Rattle.sides.specs.Sides.{same_left}
 use Rattle.affix.specs.Prefix.{members_live, members_once, group_prefix}
-use Rattle.events.specs.Events.{Step, Rules, Event, event, step_to, turn_steps, append_all}
+use Rattle.events.specs.Events.{Rules, Event, event, step_to, turn_steps, append_all}
+use Rattle.events.specs.declared.Step.{Step}
 use Rattle.events.specs.WellFormed.{keys_once, in_order}
 use Rattle.merging.specs.Merging.{is_long, is_forward, alone, prefix_of, suffix_of, later, collapsed}
 

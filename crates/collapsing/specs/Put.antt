@@ -1,11 +1,12 @@
 -- How a collapse is put into the lent arrays once its links are planned.
-use Rattle.std.specs.Prelude.{ℕ, ◌+◌, ◌*◌, ◌≤◌, ◌<◌, ◌^◌, ◌≡◌, true, cond, List, [], ltb, length}
+use Rattle.std.specs.Prelude.{ℕ, ◌+◌, ◌*◌, ◌≤◌, ◌<◌, ◌^◌, ◌≡◌, true, cond, List, [], ltb, length, Option}
 use Rattle.handle.specs.declared.Handle.{Handle}
-use Rattle.store.specs.Graph.{Node, Link, links_of}
+use Rattle.store.specs.Graph.{links_of}
+use Rattle.store.specs.declared.Node.{Node}
+use Rattle.store.specs.declared.Link.{Link}
 use Rattle.store.specs.Views.{node_named}
 use Rattle.formed.specs.WellFormed.{ids_once}
 use Rattle.events.specs.Events.{Rules, append_all}
-use Rattle.linking.specs.declared.Made.{Made}
 use Rattle.linking.specs.Fit.{fitted}
 use Rattle.merging.specs.Plan.{merged_nodes, remark}
 use Rattle.collapsing.specs.Making.{State, state}
@@ -13,7 +14,7 @@ use Rattle.longer.specs.Ahead.{events_by}
 use Rattle.longer.specs.Longer.{Passed}
 
 -- these links were planned in l, which left m and answered r
-pub record Planned (l : List ℕ) (rs : List Link) (r : Made) (m : List ℕ) : Type 0 where
+pub record Planned (l : List ℕ) (rs : List Link) (r : Option ℕ) (m : List ℕ) : Type 0 where
   pub answer : r ≡ fitted (length l) rs
   pub holds : 3 * length rs ≤ length l → links_of (length rs) m ≡ rs
 

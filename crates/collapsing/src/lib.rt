@@ -9,6 +9,7 @@ mod room;
 
 ghost use Rattle.std.specs.Prelude.{◌+◌, ◌*◌, ◌≤◌, ◌≡◌, true, cond, map, leb, length};
 ghost use Rattle.kit.specs.Loops.{count};
+ghost use Rattle.kit.specs.Refusal.{number};
 ghost use Rattle.store.specs.Graph.{nodes_of, links_of};
 ghost use Rattle.formed.specs.WellFormed.{well_formed, ids_once};
 ghost use Rattle.affix.specs.Prefix.{handles_of};
@@ -23,10 +24,10 @@ ghost use Rattle.collapsing.specs.Ready.{ready_number};
 ghost use Rattle.collapsing.specs.Outcome.{outcome, refused, made, lent, first_of, room_of, state_in, group_outcome};
 
 use events::Used;
-use linking::Made;
+use kit::Refusal;
 use store::Counts;
 
-// 01's number, the shared node, and what is in use after it.
+// 01's number, the shared node, and what is in use after it. C gets it.
 #[repr(C)]
 #[derive(Clone, Copy)]
 pub struct Collapsed {
@@ -37,11 +38,11 @@ pub struct Collapsed {
 }
 
 // A refusal gives back the counts.
-pub fn refuse(number: u64, c: Counts, u: Used) -> Collapsed
-    ensures { result ≡ record { number = number; shared = 0; counts = c; used = u } }
+pub fn refuse(why: Refusal, c: Counts, u: Used) -> Collapsed
+    ensures { result ≡ record { number = number why; shared = 0; counts = c; used = u } }
 {
     Collapsed {
-        number,
+        number: why.number(),
         shared: 0,
         counts: c,
         used: u,
@@ -76,8 +77,8 @@ fn collapse_in(
     requires room_for { RoomFor (append_all (list_of rules.old steps.old u) (events_by p (nodes_of c.nodes nodes.old) (handles_of members.now))) rules.old steps.old }
     ensures { outcome result (lent nodes.new links.new rules.new steps.new) ≡ cond (leb (3 * length (planned p (nodes_of c.nodes nodes.old) (map (dim (nodes_of c.nodes nodes.old)) (links_of c.links links.old)) (handles_of members.now))) (length room.old)) (made (beginning p (nodes_of c.nodes nodes.old) (first_of (handles_of members.now))).x (state_by p (nodes_of c.nodes nodes.old) (links_of c.links links.old) (list_of rules.old steps.old u) (planned p (nodes_of c.nodes nodes.old) (map (dim (nodes_of c.nodes nodes.old)) (links_of c.links links.old)) (handles_of members.now)) (handles_of members.now)) c (lent nodes.old links.old rules.old steps.old)) (refused 7 c u (lent nodes.old links.old rules.old steps.old)) }
 {
-    let Made::Count(n) = plan::plan(nodes, links, c, members, p, room) else {
-        return refuse(7, c, u);
+    let Some(n) = plan::plan(nodes, links, c, members, p, room) else {
+        return refuse(Refusal::Room, c, u);
     };
     make::make(nodes, links, c, rules, steps, u, members, p, room, n)
 }
@@ -119,9 +120,8 @@ pub fn collapse_group(
     requires u_value { (events_formed rules.old steps.old u ≡ true) × (keys_once (rules_of u.rules rules.old) ≡ true) }
     ensures { outcome result (lent nodes.new links.new rules.new steps.new) ≡ group_outcome (lent nodes.old links.old rules.old steps.old) text.now c u (handles_of members.now) p }
 {
-    let number = ready::ready_number(nodes, text, links, c, rules, steps, u, members, p);
-    if number != 0 {
-        return refuse(number, c, u);
+    if let Err(why) = ready::ready_number(nodes, text, links, c, rules, steps, u, members, p) {
+        return refuse(why, c, u);
     }
     let mut room = [0u64; 393216];
     collapse_ready(

@@ -1,5 +1,6 @@
 // Which number a group gives: 8 to 11 by its members, then 5 and 12 by the list with its events.
 ghost use Rattle.std.specs.Prelude.{◌*◌, ◌≤◌, ◌≡◌, true, length};
+ghost use Rattle.kit.specs.Refusal.{number_of};
 ghost use Rattle.store.specs.Graph.{graph_of, nodes_of};
 ghost use Rattle.formed.specs.WellFormed.{well_formed};
 ghost use Rattle.sides.specs.Sides.{bare};
@@ -13,6 +14,7 @@ ghost use Rattle.collapsing.specs.Outcome.{lent, state_number};
 
 use events::Used;
 use handle::Handle;
+use kit::Refusal;
 use store::Counts;
 
 // 13 of graph and events, then 5 of ids and keys.
@@ -24,22 +26,22 @@ pub fn state_number(
     rules: &[u64],
     steps: &[u64],
     u: Used,
-) -> u64
-    ensures { result ≡ state_number (lent nodes.now links.now rules.now steps.now) text.now c u }
+) -> Result<(), Refusal>
+    ensures { number_of result ≡ state_number (lent nodes.now links.now rules.now steps.now) text.now c u }
 {
     if !formed::well_formed(nodes, text, links, c) {
-        return 13;
+        return Err(Refusal::Malformed);
     }
     if !events::events_formed(rules, steps, u) {
-        return 13;
+        return Err(Refusal::Malformed);
     }
     if !formed::ids_once(nodes, c.nodes) {
-        return 5;
+        return Err(Refusal::Twice);
     }
     if !events::keys_once(rules, u.rules) {
-        return 5;
+        return Err(Refusal::Twice);
     }
-    0
+    Ok(())
 }
 
 // Whether every member has the first one's set of live left neighbours.
@@ -48,13 +50,11 @@ fn same_lefts(nodes: &[u64], links: &[u64], c: Counts, members: &[u64]) -> bool
     ensures { result ≡ same_lefts (bare nodes.now links.now c) (handles_of members.now) }
 {
     let first = Handle { packed: members[0] };
-    let mut i: usize = 1;
-    while i < members.len() {
+    for i in 1..members.len() {
         let other = Handle { packed: members[i] };
         if !sides::same_left(nodes, links, c, first, other) {
             return false;
         }
-        i += 1;
     }
     true
 }
@@ -66,33 +66,33 @@ pub fn members_number(
     c: Counts,
     members: &[u64],
     p: u64,
-) -> u64
+) -> Result<(), Refusal>
     requires { well_formed nodes.now text.now links.now c ≡ true }
-    ensures { result ≡ members_number p (graph_of nodes.now text.now links.now c) (handles_of members.now) }
+    ensures { number_of result ≡ members_number p (graph_of nodes.now text.now links.now c) (handles_of members.now) }
 {
     if members.len() < 2 {
-        return 8;
+        return Err(Refusal::Group);
     }
     if !affix::members_live(nodes, c.nodes, members) {
-        return 8;
+        return Err(Refusal::Group);
     }
     if !affix::members_once(members) {
-        return 8;
+        return Err(Refusal::Group);
     }
     if p == 0 {
-        return 9;
+        return Err(Refusal::Prefix);
     }
     if (affix::prefix_len(nodes, text, c, members) as u64) < p {
-        return 9;
+        return Err(Refusal::Prefix);
     }
     if !same_lefts(nodes, links, c, members) {
-        return 10;
+        return Err(Refusal::Neighbours);
     }
     let largest = store::largest_id(nodes, c.nodes);
     if Handle::MAX_ID - largest < longer::count_long(nodes, c.nodes, members, p) as u64 {
-        return 11;
+        return Err(Refusal::Ids);
     }
-    0
+    Ok(())
 }
 
 // The members have passed 8 to 11.
@@ -104,21 +104,21 @@ pub fn list_number(
     u: Used,
     members: &[u64],
     p: u64,
-) -> u64
+) -> Result<(), Refusal>
     requires node_count_in_bounds { 4 * node_count ≤ length nodes.now }
     requires u_value { (events_formed rules.now steps.now u ≡ true) × (keys_once (rules_of u.rules rules.now) ≡ true) }
     requires passed { Passed p (nodes_of node_count nodes.now) (handles_of members.now) }
-    ensures { result ≡ list_number (append_all (list_of rules.now steps.now u) (events_by p (nodes_of node_count nodes.now) (handles_of members.now))) }
+    ensures { number_of result ≡ list_number (append_all (list_of rules.now steps.now u) (events_by p (nodes_of node_count nodes.now) (handles_of members.now))) }
 {
     let rule_count = u.rules;
     if !longer::keys_new(nodes, node_count, rules, rule_count, members, p) {
-        return 5;
+        return Err(Refusal::Twice);
     }
     if !events::in_order(rules, steps, u) {
-        return 12;
+        return Err(Refusal::Later);
     }
     if !longer::steps_new(nodes, node_count, rules, rule_count, members, p) {
-        return 12;
+        return Err(Refusal::Later);
     }
-    0
+    Ok(())
 }

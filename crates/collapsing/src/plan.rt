@@ -6,7 +6,6 @@ ghost use Rattle.merging.specs.Plan.{dim, planned};
 ghost use Rattle.linking.specs.Fit.{Plans};
 ghost use Rattle.collapsing.specs.Put.{Planned};
 
-use linking::Made;
 use store::Counts;
 
 pub fn plan(
@@ -16,7 +15,7 @@ pub fn plan(
     members: &[u64],
     p: u64,
     room: &mut [u64],
-) -> Made
+) -> Option<usize>
     requires nodes_in_bounds { (4 * c.nodes ≤ length nodes.now) × (3 * c.links ≤ length links.now) × (3 * c.links ≤ length room.old) }
     requires plans { Plans p (nodes_of c.nodes nodes.now) (map (dim (nodes_of c.nodes nodes.now)) (links_of c.links links.now)) (handles_of members.now) }
     ensures { Planned room.old (planned p (nodes_of c.nodes nodes.now) (map (dim (nodes_of c.nodes nodes.now)) (links_of c.links links.now)) (handles_of members.now)) result room.new }

@@ -1,5 +1,6 @@
 // Every number that a collapse can give before its links are made.
 ghost use Rattle.std.specs.Prelude.{◌≡◌, true};
+ghost use Rattle.kit.specs.Refusal.{number_of};
 ghost use Rattle.store.specs.Graph.{nodes_of};
 ghost use Rattle.formed.specs.WellFormed.{well_formed, ids_once};
 ghost use Rattle.affix.specs.Prefix.{handles_of};
@@ -10,6 +11,7 @@ ghost use Rattle.collapsing.specs.Ready.{ready_number};
 
 use crate::{number, room};
 use events::Used;
+use kit::Refusal;
 use store::Counts;
 
 pub fn ready_number(
@@ -22,23 +24,17 @@ pub fn ready_number(
     u: Used,
     members: &[u64],
     p: u64,
-) -> u64
+) -> Result<(), Refusal>
     requires c_value { (well_formed nodes.now text.now links.now c ≡ true) × (ids_once (nodes_of c.nodes nodes.now) ≡ true) }
     requires u_value { (events_formed rules.now steps.now u ≡ true) × (keys_once (rules_of u.rules rules.now) ≡ true) }
-    ensures { result ≡ ready_number (room_of (lent nodes.now links.now rules.now steps.now)) p (state_in (lent nodes.now links.now rules.now steps.now) text.now c u) (handles_of members.now) }
+    ensures { number_of result ≡ ready_number (room_of (lent nodes.now links.now rules.now steps.now)) p (state_in (lent nodes.now links.now rules.now steps.now) text.now c u) (handles_of members.now) }
 {
-    let number = number::members_number(nodes, text, links, c, members, p);
-    if number != 0 {
-        return number;
-    }
-    let number = number::list_number(nodes, c.nodes, rules, steps, u, members, p);
-    if number != 0 {
-        return number;
-    }
+    number::members_number(nodes, text, links, c, members, p)?;
+    number::list_number(nodes, c.nodes, rules, steps, u, members, p)?;
     let long = longer::count_long(nodes, c.nodes, members, p);
     let more = longer::count_events(nodes, c.nodes, members, p);
     if !room::lists_fit(nodes.len(), rules.len(), steps.len(), c, u, long, more) {
-        return 7;
+        return Err(Refusal::Room);
     }
-    0
+    Ok(())
 }

@@ -7,6 +7,7 @@ use native.Mathlib.Omega.{arith}
 use borrow.Author.Tests.{eqb-false}
 use lib.Dec.{eqb, ltb}
 use lib.ListN.{length, take, drop, length-append}
+use Rattle.std.specs.Prelude.{None}
 use Rattle.kit.proofs.Bools.{tests, never}
 use lib.Seq.{sets, take-append_seam, take-append-add}
 use Rattle.store.specs.Graph.{nodes_of}
@@ -30,7 +31,9 @@ use Rattle.driver.specs.Outcome as driver
 use Rattle.folding.specs.CollapseAll.{collapse_all_outcome}
 use Rattle.walking.specs.Expand as walking
 use Rattle.walking.specs.Expand.{expand_outcome}
-use Rattle.desk.specs.Desk.{Told, told, Finished, finished, finish_outcome, refusal, of_text, of_protected, of_room, goes_on, judged, no_events, taken_outcome, tell_outcome, expand_outcome_then, drive_then, lay_then, desk_outcome}
+use Rattle.desk.specs.declared.work.Source.{Source}
+use Rattle.desk.specs.declared.work.Source.TheVariants.{Text, Protected, Room}
+use Rattle.desk.specs.Desk.{Told, told, Finished, finished, finish_outcome, refusal, goes_on, judged, no_events, taken_outcome, tell_outcome, expand_outcome_then, drive_then, lay_then, desk_outcome}
 
 -- not refused, it wrote this text at the front of its room
 pub record Wrote (text : List ℕ) (o : Outcome) : Type 0 where
@@ -144,7 +147,7 @@ module _ (text : List ℕ) (old new : Lent) (rules steps : List ℕ) (u : Used) 
       finished
       (record {
         number = 0;
-        source = 0;
+        source = None;
         stopped = stopped;
         page = p.answer.len;
         table = t.answer.len;
@@ -162,7 +165,7 @@ module _ (text : List ℕ) (old new : Lent) (rules steps : List ℕ) (u : Used) 
   unfolding tell_outcome finish_outcome
   tell_hands = by (eqb p.answer.number 0) refl
     where
-      last : p.answer.number ≡ 0 → (b : Bool) → eqb t.answer.number 0 ≡ b → Handed (after (cond (not b) (finished (refusal of_room t.answer.number) t.room) ended))
+      last : p.answer.number ≡ 0 → (b : Bool) → eqb t.answer.number 0 ≡ b → Handed (after (cond (not b) (finished (refusal Room t.answer.number) t.room) ended))
       last z true q e =
           record {
             page_is = whole (page_writes text old rules steps u new page z);
@@ -170,7 +173,7 @@ module _ (text : List ℕ) (old new : Lent) (rules steps : List ℕ) (u : Used) 
           }
       last z false q e = absurd (eqb-false t.answer.number 0 q e)
 
-      by : (b : Bool) → eqb p.answer.number 0 ≡ b → Handed (cond (not b) (told (refusal of_room p.answer.number) p.room table) (after (cond (not (eqb t.answer.number 0)) (finished (refusal of_room t.answer.number) t.room) ended)))
+      by : (b : Bool) → eqb p.answer.number 0 ≡ b → Handed (cond (not b) (told (refusal Room p.answer.number) p.room table) (after (cond (not (eqb t.answer.number 0)) (finished (refusal Room t.answer.number) t.room) ended)))
       by true q e = last (omega (arith, tests)) (eqb t.answer.number 0) refl e
       by false q e = absurd (eqb-false p.answer.number 0 q e)
 
@@ -179,21 +182,21 @@ module _ (page table : List ℕ) where
   abbrev Ends : Told → Type 0
   Ends o = o.answer.number ≡ 0 → Hands page table o
 
-  unless : (source number : ℕ) (m n : List ℕ) (o : Told) → Ends o → Ends (cond (not (eqb number 0)) (told (refusal source number) m n) o)
+  unless : (source : Source) (number : ℕ) (m n : List ℕ) (o : Told) → Ends o → Ends (cond (not (eqb number 0)) (told (refusal source number) m n) o)
   unless source number m n o d = by (eqb number 0) refl
     where
       by : (b : Bool) → eqb number 0 ≡ b → Ends (cond (not b) (told (refusal source number) m n) o)
       by true q e = d e
       by false q e = absurd (eqb-false number 0 q e)
 
-  unless-stopped : (protected : List ℕ) (number : ℕ) (m n : List ℕ) (o : Told) → Ends o → Ends (cond (not (goes_on protected number)) (told (refusal of_protected number) m n) o)
+  unless-stopped : (protected : List ℕ) (number : ℕ) (m n : List ℕ) (o : Told) → Ends o → Ends (cond (not (goes_on protected number)) (told (refusal Protected number) m n) o)
   unless-stopped protected number m n o d = by (goes_on protected number) refl
     where
-      by : (b : Bool) → goes_on protected number ≡ b → Ends (cond (not b) (told (refusal of_protected number) m n) o)
+      by : (b : Bool) → goes_on protected number ≡ b → Ends (cond (not b) (told (refusal Protected number) m n) o)
       by true q e = d e
       by false q e = never (sym (ap (goes_on protected) e) ∙ q)
 
-  unless-small : (b : Bool) (m n : List ℕ) (o : Told) → Ends o → Ends (cond b (told (refusal of_room 7) m n) o)
+  unless-small : (b : Bool) (m n : List ℕ) (o : Told) → Ends o → Ends (cond b (told (refusal Room 7) m n) o)
   unless-small true m n o d e = absurd (omega (arith, e))
   unless-small false m n o d e = d e
 
@@ -226,9 +229,9 @@ module _ (text protected : List ℕ) (check : Bool) (rooms : Store) (large : col
   pub desk_hands : (desk_outcome text protected check rooms large rules steps page table).answer.number ≡ 0 → Hands made_page made_table (desk_outcome text protected check rooms large rules steps page table)
   unfolding desk_outcome lay_then drive_then expand_outcome_then
   desk_hands =
-      unless made_page made_table of_text read.answer.number page table _
+      unless made_page made_table Text read.answer.number page table _
       (unless-small made_page made_table (ltb (length large.nodes) (length old_graph.nodes)) page table _
       (unless-small made_page made_table (ltb (length large.links) (length old_graph.links)) page table _
       (unless-stopped made_page made_table protected driven.answer.number page table _
-      (unless made_page made_table of_room rules_out.answer.number page table _
+      (unless made_page made_table Room rules_out.answer.number page table _
       (tell_hands text old_graph new_graph rules_out.rules rules_out.steps rules_out.answer.used protected check driven.answer.number page table)))))

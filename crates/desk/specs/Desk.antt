@@ -1,10 +1,9 @@
 -- A run of the program, over the outcomes of the public operations: read, collapse all, expand, write, check.
-use Rattle.std.specs.Prelude.{ℕ, ◌≡◌, Bool, cond, not, ◌&&◌, ◌||◌, List, eqb, leb, ltb, length}
+use Rattle.std.specs.Prelude.{ℕ, ◌≡◌, Bool, cond, not, ◌&&◌, ◌||◌, List, eqb, leb, ltb, length, Some, None}
 use Rattle.std.proofs.Common.{sym, ◌∙◌}
 use Rattle.std.proofs.lemmas.List.Edits.{sets}
-use Rattle.store.specs.declared.Counts.{Counts}
 use Rattle.events.specs.declared.Used.{Used}
-use Rattle.reading.specs.Reading.{Store, store}
+use Rattle.reading.specs.Reading.{Store}
 use Rattle.reading.specs.Outcome as reading
 use Rattle.reading.specs.Outcome.{read_outcome}
 use Rattle.texts.specs.PrintTransformations.{table_outcome}
@@ -15,6 +14,8 @@ use Rattle.folding.specs.CollapseAll.{collapse_all_outcome}
 use Rattle.walking.specs.Expand.{expand_outcome}
 use Rattle.checking.specs.CheckTransform.{Lent, lent, check_outcome}
 use Rattle.desk.specs.Page.{page_outcome}
+use Rattle.desk.specs.declared.work.Source.{Source}
+use Rattle.desk.specs.declared.work.Source.TheVariants.{Text, Protected, Room}
 use Rattle.desk.specs.declared.work.Done.{Done}
 
 -- 01 "Nodes, letters, links", the program's limits: a text of more than 65,536 bytes is 7 before anything else. The other
@@ -34,19 +35,10 @@ pub record Told : Type 0 where
 abbrev pub told : Done → List ℕ → List ℕ → Told
 told answer page table = record { answer = answer; page = page; table = table }
 
--- what a refusal is of: the graph's text, the protected list, or the rooms
-abbrev pub of_text : ℕ
-of_text = 1
-
-abbrev pub of_protected : ℕ
-of_protected = 2
-
-abbrev pub of_room : ℕ
-of_room = 3
-
-abbrev pub refusal : ℕ → ℕ → Done
+-- a refusal, and what it is of: the graph's text, the protected list, or the rooms
+abbrev pub refusal : Source → ℕ → Done
 refusal source number =
-    record { number = number; source = source; stopped = 0; page = 0; table = 0; verdict = verdict 0 0 0 }
+    record { number = number; source = Some source; stopped = 0; page = 0; table = 0; verdict = verdict 0 0 0 }
 
 -- 01 "Numbers that say no": a driver that is stopped on its way keeps what it made, so the run goes on with it. It is stopped
 -- by 7 or 11 only; its other numbers are refusals before the first collapse, and so is its 7 of more than 4,096 protected ids
@@ -70,11 +62,11 @@ finished answer table = record { answer = answer; table = table }
 unfoldable pub finish_outcome : ℕ → Lent → Lent → List ℕ → List ℕ → Used → List ℕ → Bool → ℕ → List ℕ → Finished
 finish_outcome len old new rules steps u protected check stopped table =
     let t = table_outcome old.nodes old.letters old.links old.counts rules steps u table in
-    cond (not (eqb t.answer.number 0)) (finished (refusal of_room t.answer.number) t.room)
+    cond (not (eqb t.answer.number 0)) (finished (refusal Room t.answer.number) t.room)
     (finished
     (record {
       number = 0;
-      source = 0;
+      source = None;
       stopped = stopped;
       page = len;
       table = t.answer.len;
@@ -87,14 +79,14 @@ unfoldable pub tell_outcome : List ℕ → Lent → Lent → List ℕ → List �
 tell_outcome text old new rules steps u protected check stopped page table =
     let p = page_outcome text old new rules steps u page in
     let f = finish_outcome p.answer.len old new rules steps u protected check stopped table in
-    cond (not (eqb p.answer.number 0)) (told (refusal of_room p.answer.number) p.room table)
+    cond (not (eqb p.answer.number 0)) (told (refusal Room p.answer.number) p.room table)
     (told f.answer p.room f.table)
 
 -- the table from the events
 unfoldable pub expand_outcome_then : List ℕ → Lent → Lent → List ℕ → List ℕ → Used → List ℕ → Bool → ℕ → List ℕ → List ℕ → List ℕ → List ℕ → Told
 expand_outcome_then text old new eventRules eventSteps u protected check stopped rules steps page table =
     let e = expand_outcome eventRules eventSteps u rules steps in
-    cond (not (eqb e.answer.number 0)) (told (refusal of_room e.answer.number) page table)
+    cond (not (eqb e.answer.number 0)) (told (refusal Room e.answer.number) page table)
     (tell_outcome text old new e.rules e.steps e.answer.used protected check stopped page table)
 
 abbrev pub no_events : Used
@@ -105,14 +97,14 @@ unfoldable pub drive_then : List ℕ → Lent → collapsing.Lent → List ℕ �
 drive_then text old new protected check rules steps page table =
     let d = collapse_all_outcome new old.letters old.counts no_events protected in
     let made = lent d.arrays.nodes old.letters d.arrays.links d.answer.counts in
-    cond (not (goes_on protected d.answer.number)) (told (refusal of_protected d.answer.number) page table)
+    cond (not (goes_on protected d.answer.number)) (told (refusal Protected d.answer.number) page table)
     (expand_outcome_then text old made d.arrays.rules d.arrays.steps d.answer.used protected check d.answer.number rules steps page table)
 
 -- the old graph at the front of larger rooms; 7 where they are shorter
 unfoldable pub lay_then : List ℕ → Lent → collapsing.Lent → List ℕ → Bool → List ℕ → List ℕ → List ℕ → List ℕ → Told
 lay_then text old new protected check rules steps page table =
-    cond (ltb (length new.nodes) (length old.nodes)) (told (refusal of_room 7) page table)
-    (cond (ltb (length new.links) (length old.links)) (told (refusal of_room 7) page table)
+    cond (ltb (length new.nodes) (length old.nodes)) (told (refusal Room 7) page table)
+    (cond (ltb (length new.links) (length old.links)) (told (refusal Room 7) page table)
     (drive_then text old
     (collapsing.lent (sets new.nodes 0 old.nodes) (sets new.links 0 old.links) new.rules new.steps)
     protected check rules steps page table))
@@ -122,7 +114,7 @@ unfoldable pub desk_outcome : List ℕ → List ℕ → Bool → Store → colla
 desk_outcome text protected check old new rules steps page table =
     let r = taken_outcome old text in
     let l = r.arrays in
-    cond (not (eqb r.answer.number 0)) (told (refusal of_text r.answer.number) page table)
+    cond (not (eqb r.answer.number 0)) (told (refusal Text r.answer.number) page table)
     (lay_then text (lent l.nodes l.letters l.links r.answer.counts) new protected check rules steps page table)
 
 -- two outcomes that the statement allows are equal

@@ -12,25 +12,26 @@ use scanning::Verdict;
 use store::Counts;
 
 // What a refusal is of.
-pub const TEXT: u64 = 1;
+#[derive(Clone, Copy, PartialEq, Eq)]
+pub enum Source {
+    Text,
+    Protected,
+    Room,
+}
 
-pub const PROTECTED: u64 = 2;
-
-pub const ROOM: u64 = 3;
-
-// The number and what it is of; the number that stopped the driver on its way, else 0; how much of the two rooms is to be
+// The number and what it is of, where it is not 0; the number that stopped the driver on its way, else 0; how much of the two rooms is to be
 // written; the verdict, where it was asked for.
 #[derive(Clone, Copy)]
 pub struct Done {
     pub number: u64,
-    pub source: u64,
+    pub source: Option<Source>,
     pub stopped: u64,
     pub page: usize,
     pub table: usize,
     pub verdict: Verdict,
 }
 
-fn refuse(source: u64, number: u64) -> Done
+fn refuse(source: Source, number: u64) -> Done
     ensures { result ≡ refusal source number }
 {
     let verdict = Verdict {
@@ -40,7 +41,7 @@ fn refuse(source: u64, number: u64) -> Done
     };
     Done {
         number,
-        source,
+        source: Some(source),
         stopped: 0,
         page: 0,
         table: 0,
@@ -51,16 +52,11 @@ fn refuse(source: u64, number: u64) -> Done
 fn goes_on(protected: &[u64], number: u64) -> bool
     ensures { result ≡ goes_on protected.now number }
 {
-    if number == 0 {
-        return true;
+    match number {
+        0 => true,
+        7 | 11 => protected.len() <= 4096,
+        _ => false,
     }
-    if 4096 < protected.len() {
-        return false;
-    }
-    if number == 7 {
-        return true;
-    }
-    number == 11
 }
 
 // The table after a page of `len` bytes, then the checker.
@@ -88,14 +84,14 @@ fn finish(
         old_nodes, letters, old_links, c, rules, steps, u, table,
     );
     if t.number != 0 {
-        return refuse(ROOM, t.number);
+        return refuse(Source::Room, t.number);
     }
     let verdict = judge(
         check, old_nodes, letters, old_links, c, nodes, links, d, rules, steps, u, protected,
     );
     Done {
         number: 0,
-        source: 0,
+        source: None,
         stopped,
         page: len,
         table: t.len,
@@ -128,7 +124,7 @@ fn tell(
         text, old_nodes, letters, old_links, c, nodes, links, d, rules, steps, u, page,
     );
     if p.number != 0 {
-        return refuse(ROOM, p.number);
+        return refuse(Source::Room, p.number);
     }
     finish(
         p.len, old_nodes, letters, old_links, c, nodes, links, d, rules, steps, u, protected,
@@ -161,7 +157,7 @@ fn expand_then(
 {
     let e = gfaffix::expand::expand(event_rules, event_steps, u, rules, steps);
     if e.number != 0 {
-        return refuse(ROOM, e.number);
+        return refuse(Source::Room, e.number);
     }
     tell(
         text, old_nodes, letters, old_links, c, nodes, links, d, rules, steps, e.used, protected,
@@ -202,7 +198,7 @@ fn drive_then(
     );
     let number = r.number;
     if !goes_on(protected, number) {
-        return refuse(PROTECTED, number);
+        return refuse(Source::Protected, number);
     }
     expand_then(
         text,
@@ -248,10 +244,10 @@ fn lay_then(
     ensures page_in_bounds { (result.page ≤ length page.new) × (result.table ≤ length table.new) }
 {
     if nodes.len() < old_nodes.len() {
-        return refuse(ROOM, 7);
+        return refuse(Source::Room, 7);
     }
     if links.len() < old_links.len() {
-        return refuse(ROOM, 7);
+        return refuse(Source::Room, 7);
     }
     taking::put_front(old_nodes, nodes);
     taking::put_front(old_links, links);
@@ -296,7 +292,7 @@ pub fn work(
 {
     let r = taking::take_in(text, old_nodes, letters, old_links);
     if r.number != 0 {
-        return refuse(TEXT, r.number);
+        return refuse(Source::Text, r.number);
     }
     lay_then(
         text,

@@ -1,11 +1,8 @@
 -- Steps one by one, and the whole text of a path or a walk.
 use Prim.Native.Nat.{ℕ, ◌+◌, ◌^◌, ◌≤◌, ◌<◌}
 use mathlib.Core.Path.{◌≡◌, refl, sym, ap, ◌∙◌, subst}
-use mathlib.Core.Bool.{Bool, true, false}
 use mathlib.Core.List.{List, [], ◌∷◌, ◌++◌, append-nil, append_assoc}
 use native.Mathlib.Omega.{arith}
-use borrow.Author.Tests.{eq-eqb, ne_eqb, eqb-true, eqb-false}
-use lib.Dec.{eqb}
 use lib.ListN.{length, drop, get_or, length-append, get_or-map}
 use Rattle.kit.specs.Decimal.{decimal}
 use Rattle.kit.specs.Loops.{lines}
@@ -16,58 +13,44 @@ use Rattle.handle.specs.Handle.{id_of}
 use Rattle.store.specs.Graph.{handle}
 use Rattle.groups.specs.Groups.{numbers}
 use Rattle.writing.specs.Marks.{sign_of, walk_step, path_step, walk_text, path_text}
+use Rattle.drawing.specs.declared.step.Mark.{Mark}
+use Rattle.drawing.specs.declared.step.Mark.TheVariants.{Walk, First, Later}
 use Rattle.drawing.specs.declared.step.Pen.{Pen}
 use Rattle.drawing.specs.Capped.{Capped}
 use Rattle.drawing.specs.Drawn.{step_text, later, steps_text, mark_after, Drawn}
 use Rattle.drawing.proofs.Capping.{Capping, capping_next, capping_all, capping_stop}
 
--- a step by its mark, and how long it is
-module _ (mark : ℕ) (h : Handle) where
-  pub step_walk : mark ≡ 0 → step_text mark h ≡ walk_step h
-  unfolding step_text
-  step_walk e = rw (eq-eqb mark 0 e)
+-- how long a step is
+module _ (h : Handle) (k : h.packed < 2 ^ 64) where
+  digits : length (decimal (id_of h)) ≤ 20
+  digits = decimal_short (id_of h) (omega arith)
 
-  module _ (n : mark ≡ 0 → ⊥) where
-    pub step-first : mark ≡ 1 → step_text mark h ≡ path_step h
-    unfolding step_text
-    step-first e = rw (ne_eqb mark 0 n, eq-eqb mark 1 e)
+  whole : length (path_step h) ≡ length (decimal (id_of h)) + 1
+  whole = length-append (decimal (id_of h)) (sign_of h ∷ [])
 
-    pub step-later : (mark ≡ 1 → ⊥) → step_text mark h ≡ 44 ∷ path_step h
-    unfolding step_text
-    step-later k = rw (ne_eqb mark 0 n, ne_eqb mark 1 k)
+  pub step_short : (mark : Mark) → length (step_text mark h) ≤ 22
+  step_short Walk = omega (arith, digits)
+  step_short First = omega (arith, digits, whole)
+  step_short Later = omega (arith, digits, whole)
 
-  pub step_short : h.packed < 2 ^ 64 → length (step_text mark h) ≤ 22
-  step_short k = by (eqb mark 0) (eqb mark 1) refl refl
-    where
-      digits : length (decimal (id_of h)) ≤ 20
-      digits = decimal_short (id_of h) (omega arith)
-
-      whole : length (path_step h) ≡ length (decimal (id_of h)) + 1
-      whole = length-append (decimal (id_of h)) (sign_of h ∷ [])
-
-      by : (a b : Bool) → eqb mark 0 ≡ a → eqb mark 1 ≡ b → length (step_text mark h) ≤ 22
-      by true b e f = omega (arith, ap length (step_walk (eqb-true mark 0 e)), digits)
-      by false true e f = omega (arith, ap length (step-first (eqb-false mark 0 e) (eqb-true mark 1 f)), digits, whole)
-      by false false e f = omega (arith, ap length (step-later (eqb-false mark 0 e) (eqb-false mark 1 f)), digits, whole)
-
-steps-append : (mark : ℕ) (a b : List Handle) → steps_text mark (a ++ b) ≡ steps_text mark a ++ steps_text (mark_after mark a) b
+steps-append : (mark : Mark) (a b : List Handle) → steps_text mark (a ++ b) ≡ steps_text mark a ++ steps_text (mark_after mark a) b
 steps-append mark [] b = refl
 steps-append mark (h ∷ a) b =
     ap (λ (l : List ℕ). step_text mark h ++ l) (steps-append (later mark) a b)
     ∙ sym (append_assoc (step_text mark h) (steps_text (later mark) a) (steps_text (mark_after (later mark) a) b))
 
-pub walk_text_lem : (hs : List Handle) → steps_text 0 hs ≡ walk_text hs
-unfolding step_text later walk_text
+pub walk_text_lem : (hs : List Handle) → steps_text Walk hs ≡ walk_text hs
+unfolding walk_text
 walk_text_lem [] = refl
 walk_text_lem (h ∷ hs) = ap (λ (l : List ℕ). walk_step h ++ l) (walk_text_lem hs)
 
-later-text : (k : Handle) (hs : List Handle) → steps_text 2 (k ∷ hs) ≡ 44 ∷ path_text (k ∷ hs)
-unfolding step_text later path_text
+later-text : (k : Handle) (hs : List Handle) → steps_text Later (k ∷ hs) ≡ 44 ∷ path_text (k ∷ hs)
+unfolding path_text
 later-text k [] = ap (λ (l : List ℕ). 44 ∷ l) (append-nil (path_step k))
 later-text k (h ∷ hs) = ap (λ (l : List ℕ). 44 ∷ (path_step k ++ l)) (later-text h hs)
 
-pub path_text_lem : (hs : List Handle) → steps_text 1 hs ≡ path_text hs
-unfolding step_text later path_text
+pub path_text_lem : (hs : List Handle) → steps_text First hs ≡ path_text hs
+unfolding path_text
 path_text_lem [] = refl
 path_text_lem (h ∷ []) = append-nil (path_step h)
 path_text_lem (h ∷ k ∷ hs) = ap (λ (l : List ℕ). path_step h ++ l) (later-text k hs)
@@ -86,7 +69,7 @@ pub record Drawing (stop : ℕ) (l : List ℕ) (p : Pen) (all : List Handle) (m 
   pub text : Capping stop l p.place (steps_text p.mark all) m q.place (steps_text q.mark rest)
   pub ends : mark_after q.mark rest ≡ mark_after p.mark all
 
-mark_append : (mark : ℕ) (a b : List Handle) → mark_after mark (a ++ b) ≡ mark_after (mark_after mark a) b
+mark_append : (mark : Mark) (a b : List Handle) → mark_after mark (a ++ b) ≡ mark_after (mark_after mark a) b
 mark_append mark [] b = refl
 mark_append mark (h ∷ a) b = mark_append (later mark) a b
 
@@ -95,8 +78,8 @@ module _ {stop : ℕ} {l : List ℕ} {p : Pen} {all : List Handle} {m : List ℕ
   pub drawing-next : {a rest more : List Handle} {k : List ℕ} {r : Pen} → Drawing stop l p all m q more → more ≡ a ++ rest → Drawn stop m q a k r → length k ≡ length m → Drawing stop l p all k r rest
   drawing-next {a} {rest} {more} {k} {r} d e w s =
       record {
-        text = capping_next d.text (ap (steps_text q.mark) e ∙ steps-append q.mark a rest ∙ ap (λ (n : ℕ). steps_text q.mark a ++ steps_text n rest) (sym w.next)) w.written s;
-        ends = ap (λ (n : ℕ). mark_after n rest) w.next ∙ sym (mark_append q.mark a rest) ∙ sym (ap (mark_after q.mark) e) ∙ d.ends;
+        text = capping_next d.text (ap (steps_text q.mark) e ∙ steps-append q.mark a rest ∙ ap (λ (n : Mark). steps_text q.mark a ++ steps_text n rest) (sym w.next)) w.written s;
+        ends = ap (λ (n : Mark). mark_after n rest) w.next ∙ sym (mark_append q.mark a rest) ∙ sym (ap (mark_after q.mark) e) ∙ d.ends;
       }
 
   pub drawing-all : {rest : List Handle} → Drawing stop l p all m q rest → rest ≡ [] → Drawn stop l p all m q
@@ -111,7 +94,7 @@ module _ (f : Handle → List Handle) {stop : ℕ} {l : List ℕ} {at : ℕ} {al
   pub walk_next : Capping stop l at all k r.place (steps_text r.mark (lines f tail))
   walk_next =
       let x : Drawn stop m q (f g) k r = drawn_is (ap f v) w in
-      capping_next d (ap (λ (y : List Handle). steps_text q.mark (lines f y)) e ∙ steps-append q.mark (f g) (lines f tail) ∙ ap (λ (n : ℕ). steps_text q.mark (f g) ++ steps_text n (lines f tail)) (sym x.next)) x.written s
+      capping_next d (ap (λ (y : List Handle). steps_text q.mark (lines f y)) e ∙ steps-append q.mark (f g) (lines f tail) ∙ ap (λ (n : Mark). steps_text q.mark (f g) ++ steps_text n (lines f tail)) (sym x.next)) x.written s
 
   pub walk_end : tail ≡ [] → Capped stop l at all k r.place
   walk_end z = capping_all walk_next (ap (λ (y : List Handle). steps_text r.mark (lines f y)) z)

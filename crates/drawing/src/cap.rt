@@ -38,10 +38,8 @@ pub fn add_fields(line: &[u8], n: usize, out: &mut [u8], stop: usize, at: usize)
     ensures { Capped stop out.old at (fields_text 0 n line.now) out.new result }
 {
     let mut place = at;
-    let mut k: usize = 0;
-    while k < n {
+    for k in 0..n {
         place = add_field(line, k, out, stop, place);
-        k += 1;
     }
     place
 }

@@ -9,9 +9,8 @@ ghost use Rattle.drawing.specs.Capped.{Open};
 ghost use Rattle.drawing.specs.Drawn.{Drawn};
 
 use crate::step::{Pen, add_step};
-use events::Used;
+use events::{Rule, Used};
 use handle::Handle;
-use kit::Found;
 use store::Counts;
 
 // A rule's walk, `count` steps from `first` on, gone along in a direction.
@@ -30,11 +29,9 @@ fn add_image(
     ensures { Drawn stop out.old start (towards direction (nodes_on (steps_of total steps.now) (rule 0 0 first count))) out.new result }
 {
     let mut pen = start;
-    let mut j: usize = 0;
-    while j < count {
+    for j in 0..count {
         let step = rewriting::image_step(steps, total, first, count, direction, j);
         pen = add_step(out, stop, pen, Handle { packed: step });
-        j += 1;
     }
     pen
 }
@@ -56,10 +53,11 @@ pub fn add_node(
 {
     let id = h.id();
     let len = store::node_len(nodes, c.nodes, id);
-    let Found::At(i) = events::find_rule(rules, u.rules, id, len) else {
+    let Some(i) = events::find_rule(rules, u.rules, id, len) else {
         return add_step(out, stop, pen, h);
     };
-    let first = rules[4 * i + 2] as usize;
-    let count = rules[4 * i + 3] as usize;
+    let r = Rule::at(rules, i);
+    let first = r.first as usize;
+    let count = r.steps as usize;
     add_image(steps, u.steps, first, count, h.direction(), out, stop, pen)
 }

@@ -9,28 +9,28 @@ use crate::cap::cap;
 use handle::Handle;
 use writing::{marks, put};
 
+// How a step is written: a walk's, a path's first one, a path's later one.
+#[derive(Clone, Copy, PartialEq, Eq)]
+pub enum Mark {
+    Walk,
+    First,
+    Later,
+}
+
 // Where the next step goes, and how it is written.
 #[derive(Clone, Copy)]
 pub struct Pen {
     pub place: usize,
-    pub mark: u64,
+    pub mark: Mark,
 }
 
-impl Pen {
-    pub const WALK: u64 = 0;
-
-    pub const FIRST: u64 = 1;
-
-    pub const LATER: u64 = 2;
-}
-
-fn later(mark: u64) -> u64
+fn later(mark: Mark) -> Mark
     ensures { result ≡ later mark }
 {
-    if mark == Pen::WALK {
-        return Pen::WALK;
+    match mark {
+        Mark::Walk => Mark::Walk,
+        Mark::First | Mark::Later => Mark::Later,
     }
-    Pen::LATER
 }
 
 fn fill_path_step(out: &mut [u8], at: usize, h: Handle) -> usize
@@ -41,18 +41,18 @@ fn fill_path_step(out: &mut [u8], at: usize, h: Handle) -> usize
     put::fill_byte(out, end, marks::sign_of(h))
 }
 
-fn fill_step(out: &mut [u8], at: usize, mark: u64, h: Handle) -> usize
+fn fill_step(out: &mut [u8], at: usize, mark: Mark, h: Handle) -> usize
     requires { at + length (step_text mark h) < 2 ^ 64 }
     ensures { Filled out.old at (step_text mark h) out.new result }
 {
-    if mark == Pen::WALK {
-        return marks::fill_step(out, at, h);
+    match mark {
+        Mark::Walk => marks::fill_step(out, at, h),
+        Mark::First => fill_path_step(out, at, h),
+        Mark::Later => {
+            let end = put::fill_byte(out, at, b',');
+            fill_path_step(out, end, h)
+        }
     }
-    if mark == Pen::FIRST {
-        return fill_path_step(out, at, h);
-    }
-    let end = put::fill_byte(out, at, b',');
-    fill_path_step(out, end, h)
 }
 
 pub fn add_step(out: &mut [u8], stop: usize, pen: Pen, h: Handle) -> Pen

@@ -9,7 +9,7 @@ ghost use Rattle.writing.specs.Marks.{path_text, walk_text};
 ghost use Rattle.drawing.specs.Capped.{Open, Capped};
 
 use crate::image::add_node;
-use crate::step::Pen;
+use crate::step::{Mark, Pen};
 use events::Used;
 use store::Counts;
 use text::pieces::piece_end;
@@ -32,7 +32,7 @@ pub fn add_path(
 {
     let mut pen = Pen {
         place: at,
-        mark: Pen::FIRST,
+        mark: Mark::First,
     };
     let mut from: usize = 0;
     loop {
@@ -66,9 +66,10 @@ pub fn add_walk(
 {
     let mut pen = Pen {
         place: at,
-        mark: Pen::WALK,
+        mark: Mark::Walk,
     };
     let mut from: usize = 0;
+    // The place moves by what a step takes, so it is no count.
     while from < walk.len() {
         let end = walk_step_end(walk, from);
         let h = walk_handle(&walk[from..end]);

@@ -8,7 +8,8 @@ use lib.Dec.{eqb}
 use lib.ListN.{length, length-map, length-append}
 use Rattle.handle.specs.declared.Handle.{Handle}
 use Rattle.handle.specs.Handle.{id_of}
-use Rattle.store.specs.Graph.{Link, Graph, node_layout, link_layout}
+use Rattle.store.specs.Graph.{Graph, node_layout, link_layout}
+use Rattle.store.specs.declared.Link.{Link}
 use Rattle.events.specs.Events.{rule_layout, step_layout}
 use Rattle.split.specs.Split.{split}
 use Rattle.merging.specs.Merging.{is_long, cut_at, alone, prefix_of, mark_node, later, later_all, collapsed}

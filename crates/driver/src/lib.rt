@@ -8,7 +8,7 @@ ghost use Rattle.std.specs.Prelude.{◌≡◌};
 use events::Used;
 use store::Counts;
 
-// 01's number, how many collapses were made, and what is in use after them.
+// 01's number, how many collapses were made, and what is in use after them. C gets it.
 #[repr(C)]
 #[derive(Clone, Copy)]
 pub struct Driven {

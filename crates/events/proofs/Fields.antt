@@ -6,13 +6,10 @@ use native.Mathlib.Nat.{add-zero}
 use lib.ListN.{drop, get_or}
 use lib.Seq.{get_or-drop}
 use Rattle.kit.proofs.Laws.{left_cons, decode-at}
-use Rattle.events.specs.Events.{Rule, Step, rule, step, rule_layout, step_layout, rules_of, steps_of, unpack_rule, unpack_step}
-
-abbrev pub rule_at : List ℕ → ℕ → Rule
-rule_at l i = rule (get_or l (4 * i) 0) (get_or l (4 * i + 1) 0) (get_or l (4 * i + 2) 0) (get_or l (4 * i + 3) 0)
-
-abbrev pub step_at : List ℕ → ℕ → Step
-step_at l i = step (get_or l (2 * i) 0) (get_or l (2 * i + 1) 0)
+pub use Rattle.events.specs.Events.{rule_at, step_at}
+use Rattle.events.specs.Events.{rule_layout, step_layout, rules_of, steps_of, unpack_rule, unpack_step}
+use Rattle.events.specs.declared.Rule.{Rule}
+use Rattle.events.specs.declared.Step.{Step}
 
 pub rule_at_lem : (l : List ℕ) (i : ℕ) → unpack_rule (drop (4 * i) l) ≡ rule_at l i
 rule_at_lem l i = simp (get_or-drop, add-zero)

@@ -12,7 +12,9 @@ use Rattle.kit.proofs.Bools.{and_true_l, and_true_r}
 use Rattle.kit.proofs.Laws.{length-decode, decode-take, decode_snoc, left_none}
 use Rattle.kit.proofs.Meaning.{all-at}
 use Rattle.events.specs.declared.Used.{Used}
-use Rattle.events.specs.Events.{Rule, Step, rules_of, steps_of, rule_layout, step_layout, list_of, walk_of}
+use Rattle.events.specs.Events.{rules_of, steps_of, rule_layout, step_layout, list_of, walk_of}
+use Rattle.events.specs.declared.Rule.{Rule}
+use Rattle.events.specs.declared.Step.{Step}
 use Rattle.events.specs.WellFormed.{room_for_rules, good_rule, good_step, good_table, table_formed, steps_later, in_order_from}
 use Rattle.events.proofs.Fields.{rule_at, rule_at_lem, left-rule, rule_is}
 use Rattle.events.proofs.Says.{rule_says}

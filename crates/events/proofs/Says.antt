@@ -9,7 +9,8 @@ use lib.ListN.{length}
 use Rattle.kit.proofs.Bools.{and_true_l, and_true_r, and_both}
 use Rattle.handle.specs.Handle.{max_id, is_id}
 use Rattle.events.specs.declared.Used.{Used}
-use Rattle.events.specs.Events.{Rule, list_of}
+use Rattle.events.specs.Events.{list_of}
+use Rattle.events.specs.declared.Rule.{Rule}
 use Rattle.events.specs.WellFormed.{room_for_rules, good_rule, good_table, table_formed}
 
 pub record RuleFacts (total : ℕ) (r : Rule) : Type 0 where

@@ -7,7 +7,8 @@ use lib.ListN.{length, length-append}
 use Rattle.kit.specs.Loops.{sum}
 use Rattle.kit.proofs.Meaning.{sum-append}
 use Rattle.handle.specs.Handle.{flip}
-use Rattle.events.specs.Events.{Step, step_to, turn_steps, Event, rules_from}
+use Rattle.events.specs.Events.{step_to, turn_steps, Event, rules_from}
+use Rattle.events.specs.declared.Step.{Step}
 
 pub length-turn : (ss : List Step) → length (turn_steps ss) ≡ length ss
 length-turn [] = refl

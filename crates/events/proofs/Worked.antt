@@ -3,7 +3,7 @@ use Prim.Native.Nat.{ℕ}
 use mathlib.Core.Path.{◌≡◌, refl}
 use mathlib.Core.Bool.{true, false}
 use mathlib.Core.List.{List, [], ◌∷◌}
-use Rattle.kit.specs.declared.Found.TheVariants.{At, Nothing}
+use Rattle.std.specs.Prelude.{Some, None}
 use Rattle.events.specs.declared.Used.{Used}
 use Rattle.events.specs.Events.{Rules, list_of, find_rule}
 use Rattle.events.specs.WellFormed.{table_formed, events_formed, keys_once, in_order}
@@ -20,7 +20,7 @@ used n m = record { rules = n; steps = m }
 abbrev t : Rules
 t = list_of rules steps (used 2 4)
 
-c14 : (events_formed rules steps (used 2 4) ≡ true) × (keys_once t.rules ≡ true) × (in_order t ≡ true) × (find_rule 2 2 t.rules ≡ At 1) × (find_rule 2 1 t.rules ≡ Nothing)
+c14 : (events_formed rules steps (used 2 4) ≡ true) × (keys_once t.rules ≡ true) × (in_order t ≡ true) × (find_rule 2 2 t.rules ≡ Some 1) × (find_rule 2 1 t.rules ≡ None)
 c14 = (refl, refl, refl, refl, refl)
 
 -- a step too few in use; an id of 0 in a step; a rule without steps, which a table may have

@@ -1,28 +1,17 @@
 -- Rules and their steps, as they lie in flat arrays: 01 "Prefix, groups, collapse", events. An event list and a table have
 -- the same form.
-use Rattle.std.specs.Prelude.{ℕ, ◌+◌, ◌≤◌, ◌≡◌, refl, Bool, ◌&&◌, List, [], ◌∷◌, ◌++◌, eqb, length, take, drop, get_or}
+use Rattle.std.specs.Prelude.{ℕ, ◌+◌, ◌*◌, ◌≤◌, ◌≡◌, refl, Bool, ◌&&◌, List, [], ◌∷◌, ◌++◌, eqb, length, take, drop, get_or, Option}
 use Rattle.std.proofs.Common.{arith}
 use Rattle.kit.specs.Layout.{Layout, decode}
 use Rattle.kit.specs.Loops.{find, lines}
-use Rattle.kit.specs.declared.Found.{Found}
 use Rattle.handle.specs.declared.Handle.{Handle}
 use Rattle.handle.specs.Handle.{flip}
+use Rattle.events.specs.declared.Rule.{Rule}
+use Rattle.events.specs.declared.Step.{Step}
 use Rattle.events.specs.declared.Used.{Used}
-
--- a rule's key is id and length together; its walk is `steps` steps from the step `first` on
-pub record Rule : Type 0 where
-  pub id : ℕ
-  pub len : ℕ
-  pub first : ℕ
-  pub steps : ℕ
 
 abbrev pub rule : ℕ → ℕ → ℕ → ℕ → Rule
 rule id len first steps = record { id = id; len = len; first = first; steps = steps }
-
--- an oriented node and its recorded length
-pub record Step : Type 0 where
-  pub node : Handle
-  pub len : ℕ
 
 abbrev pub step : ℕ → ℕ → Step
 step packed len = record { node = record { packed = packed }; len = len }
@@ -97,6 +86,13 @@ rules_of n l = decode rule_layout n l
 abbrev pub steps_of : ℕ → List ℕ → List Step
 steps_of n l = decode step_layout n l
 
+-- the i-th rule and the i-th step
+abbrev pub rule_at : List ℕ → ℕ → Rule
+rule_at l i = rule (get_or l (4 * i) 0) (get_or l (4 * i + 1) 0) (get_or l (4 * i + 2) 0) (get_or l (4 * i + 3) 0)
+
+abbrev pub step_at : List ℕ → ℕ → Step
+step_at l i = step (get_or l (2 * i) 0) (get_or l (2 * i + 1) 0)
+
 -- the list in two lent arrays, by the counts of what is in use
 abbrev pub list_of : List ℕ → List ℕ → Used → Rules
 list_of rules steps c = record { rules = rules_of c.rules rules; steps = steps_of c.steps steps }
@@ -109,7 +105,7 @@ abbrev pub keyed : ℕ → ℕ → Rule → Bool
 keyed id len r = eqb r.id id && eqb r.len len
 
 -- the slot of the rule under a key
-abbrev pub find_rule : ℕ → ℕ → List Rule → Found
+abbrev pub find_rule : ℕ → ℕ → List Rule → Option ℕ
 find_rule id len rs = find (keyed id len) rs
 
 abbrev pub step_to : Handle → ℕ → Step

@@ -3,7 +3,9 @@ use Rattle.std.specs.Prelude.{ℕ, ◌+◌, ◌*◌, Bool, true, not, ◌&&◌, 
 use Rattle.kit.specs.Loops.{all, any, distinct}
 use Rattle.handle.specs.Handle.{is_id, is_handle, id_of}
 use Rattle.events.specs.declared.Used.{Used}
-use Rattle.events.specs.Events.{Rule, Step, Rules, list_of, walk_of, keyed}
+use Rattle.events.specs.Events.{Rules, list_of, walk_of, keyed}
+use Rattle.events.specs.declared.Rule.{Rule}
+use Rattle.events.specs.declared.Step.{Step}
 
 -- counts inside the lent arrays and the limits
 abbrev pub room_for_rules : List ℕ → List ℕ → Used → Bool

@@ -1,14 +1,14 @@
-// Event lists and tables in lent flat arrays. A rule is four numbers (id, length, first step, steps), a step two
+// Event lists and tables in flat arrays, as C lends them. A rule is four numbers (id, length, first step, steps), a step two
 // (packed oriented node, length).
 #![tactic(auto)]
 
-ghost use Rattle.std.specs.Prelude.{◌*◌, ◌≤◌, ◌≡◌, true, ◌&&◌, eqb, length, drop};
+ghost use Rattle.std.specs.Prelude.{IfSome, ◌+◌, ◌*◌, ◌≤◌, ◌<◌, ◌≡◌, true, ◌&&◌, eqb, length, drop};
 ghost use Rattle.kit.specs.Loops.{all, any};
-ghost use Rattle.events.specs.Events.{rule, rules_of, steps_of, list_of, find_rule, keyed};
+ghost use Rattle.std.proofs.lemmas.List.Edits.{sets};
+ghost use Rattle.events.specs.Events.{pack_rule, pack_step, rule_at, step_at, rules_of, steps_of, list_of, find_rule, keyed};
 ghost use Rattle.events.specs.WellFormed.{room_for_rules, good_rule, good_step, has_step, keys_once, table_formed, events_formed, steps_later, in_order};
 
 use handle::Handle;
-use kit::Found;
 
 // How many rules and steps are in use.
 #[repr(C)]
@@ -18,6 +18,70 @@ pub struct Used {
     pub steps: usize,
 }
 
+// A rule stands under its key, an id with a length; its walk is `steps` steps from `first` on.
+#[derive(Clone, Copy)]
+pub struct Rule {
+    pub id: u64,
+    pub len: u64,
+    pub first: u64,
+    pub steps: u64,
+}
+
+impl Rule {
+    pub fn at(rules: &[u64], i: usize) -> Self
+        requires { 4 * i + 4 ≤ length rules.now }
+        ensures { result ≡ rule_at rules.now i }
+    {
+        let k = 4 * i;
+        Self {
+            id: rules[k],
+            len: rules[k + 1],
+            first: rules[k + 2],
+            steps: rules[k + 3],
+        }
+    }
+
+    pub fn put(self, rules: &mut [u64], i: usize)
+        requires { 4 * i + 4 ≤ length rules.old }
+        ensures { rules.new ≡ sets rules.old (4 * i) (pack_rule self) }
+    {
+        let k = 4 * i;
+        rules[k] = self.id;
+        rules[k + 1] = self.len;
+        rules[k + 2] = self.first;
+        rules[k + 3] = self.steps;
+    }
+}
+
+// A step of a walk, an oriented node with its recorded length.
+#[derive(Clone, Copy)]
+pub struct Step {
+    pub node: Handle,
+    pub len: u64,
+}
+
+impl Step {
+    pub fn at(steps: &[u64], i: usize) -> Self
+        requires { 2 * i + 2 ≤ length steps.now }
+        ensures { result ≡ step_at steps.now i }
+    {
+        let k = 2 * i;
+        Self {
+            node: Handle { packed: steps[k] },
+            len: steps[k + 1],
+        }
+    }
+
+    pub fn put(self, steps: &mut [u64], i: usize)
+        requires { 2 * i + 2 ≤ length steps.old }
+        ensures { steps.new ≡ sets steps.old (2 * i) (pack_step self) }
+    {
+        let k = 2 * i;
+        steps[k] = self.node.packed;
+        steps[k + 1] = self.len;
+    }
+}
+
 pub fn same_key(id: u64, len: u64, other: u64, size: u64) -> bool
     ensures { result ≡ (eqb id other && eqb len size) }
 {
@@ -25,18 +89,18 @@ pub fn same_key(id: u64, len: u64, other: u64, size: u64) -> bool
 }
 
 // The slot of the first rule under this key.
-pub fn find_rule(rules: &[u64], count: usize, id: u64, len: u64) -> Found
+pub fn find_rule(rules: &[u64], count: usize, id: u64, len: u64) -> Option<usize>
     requires { 4 * count ≤ length rules.now }
-    ensures { result ≡ find_rule id len (rules_of count rules.now) }
+    ensures value { result ≡ find_rule id len (rules_of count rules.now) }
+    ensures within { IfSome result (λ i. i < count) }
 {
-    let mut i: usize = 0;
-    while i < count {
-        if same_key(rules[4 * i], rules[4 * i + 1], id, len) {
-            return Found::At(i);
+    for i in 0..count {
+        let r = Rule::at(rules, i);
+        if same_key(r.id, r.len, id, len) {
+            return Some(i);
         }
-        i += 1;
     }
-    Found::Nothing
+    None
 }
 
 // Whether a rule under this key stands at slot `start` or later.
@@ -44,12 +108,11 @@ fn key_again(rules: &[u64], count: usize, start: usize, id: u64, len: u64) -> bo
     requires { 4 * count ≤ length rules.now }
     ensures { result ≡ any (keyed id len) (drop start (rules_of count rules.now)) }
 {
-    let mut i = start;
-    while i < count {
-        if same_key(rules[4 * i], rules[4 * i + 1], id, len) {
+    for i in start..count {
+        let r = Rule::at(rules, i);
+        if same_key(r.id, r.len, id, len) {
             return true;
         }
-        i += 1;
     }
     false
 }
@@ -58,48 +121,39 @@ pub fn keys_once(rules: &[u64], count: usize) -> bool
     requires { 4 * count ≤ length rules.now }
     ensures { result ≡ keys_once (rules_of count rules.now) }
 {
-    let mut i: usize = 0;
-    while i < count {
-        if key_again(rules, count, i + 1, rules[4 * i], rules[4 * i + 1]) {
+    for i in 0..count {
+        let r = Rule::at(rules, i);
+        if key_again(rules, count, i + 1, r.id, r.len) {
             return false;
         }
-        i += 1;
     }
     true
 }
 
 // The tests are in an order in which none can overflow.
-fn good_rule(total: u64, id: u64, len: u64, first: u64, steps: u64) -> bool
-    ensures { result ≡ good_rule total (rule id len first steps) }
+fn good_rule(total: u64, r: Rule) -> bool
+    ensures { result ≡ good_rule total r }
 {
-    if id < 1 {
+    if r.id < 1 {
         return false;
     }
-    if Handle::MAX_ID < id {
+    if Handle::MAX_ID < r.id {
         return false;
     }
-    if total < steps {
+    if total < r.steps {
         return false;
     }
-    first <= total - steps
+    r.first <= total - r.steps
 }
 
 fn good_rules(rules: &[u64], count: usize, total: u64) -> bool
     requires { 4 * count ≤ length rules.now }
     ensures { result ≡ all (good_rule total) (rules_of count rules.now) }
 {
-    let mut i: usize = 0;
-    while i < count {
-        if !good_rule(
-            total,
-            rules[4 * i],
-            rules[4 * i + 1],
-            rules[4 * i + 2],
-            rules[4 * i + 3],
-        ) {
+    for i in 0..count {
+        if !good_rule(total, Rule::at(rules, i)) {
             return false;
         }
-        i += 1;
     }
     true
 }
@@ -108,15 +162,10 @@ fn good_steps(steps: &[u64], count: usize) -> bool
     requires { 2 * count ≤ length steps.now }
     ensures { result ≡ all good_step (steps_of count steps.now) }
 {
-    let mut i: usize = 0;
-    while i < count {
-        let node = Handle {
-            packed: steps[2 * i],
-        };
-        if !node.is_handle() {
+    for i in 0..count {
+        if !Step::at(steps, i).node.is_handle() {
             return false;
         }
-        i += 1;
     }
     true
 }
@@ -125,12 +174,10 @@ fn have_steps(rules: &[u64], count: usize) -> bool
     requires { 4 * count ≤ length rules.now }
     ensures { result ≡ all has_step (rules_of count rules.now) }
 {
-    let mut i: usize = 0;
-    while i < count {
-        if rules[4 * i + 3] < 1 {
+    for i in 0..count {
+        if Rule::at(rules, i).steps < 1 {
             return false;
         }
-        i += 1;
     }
     true
 }
@@ -179,10 +226,7 @@ fn key_met(rules: &[u64], met: usize, id: u64, len: u64) -> bool
     requires { 4 * met ≤ length rules.now }
     ensures { result ≡ any (keyed id len) (rules_of met rules.now) }
 {
-    let Found::At(_) = find_rule(rules, met, id, len) else {
-        return false;
-    };
-    true
+    find_rule(rules, met, id, len).is_some()
 }
 
 // Whether none of the steps from `start` to `end` has its own rule among the first `met`.
@@ -190,15 +234,11 @@ fn steps_later(rules: &[u64], met: usize, steps: &[u64], start: usize, end: usiz
     requires { (4 * met ≤ length rules.now) × (2 * end ≤ length steps.now) }
     ensures { result ≡ steps_later (rules_of met rules.now) (drop start (steps_of end steps.now)) }
 {
-    let mut j = start;
-    while j < end {
-        let node = Handle {
-            packed: steps[2 * j],
-        };
-        if key_met(rules, met, node.id(), steps[2 * j + 1]) {
+    for j in start..end {
+        let s = Step::at(steps, j);
+        if key_met(rules, met, s.node.id(), s.len) {
             return false;
         }
-        j += 1;
     }
     true
 }
@@ -209,14 +249,13 @@ pub fn in_order(rules: &[u64], steps: &[u64], c: Used) -> bool
     ensures { result ≡ in_order (list_of rules.now steps.now c) }
 {
     let count = c.rules;
-    let mut i: usize = 0;
-    while i < count {
-        let first = rules[4 * i + 2] as usize;
-        let end = first + rules[4 * i + 3] as usize;
+    for i in 0..count {
+        let r = Rule::at(rules, i);
+        let first = r.first as usize;
+        let end = first + r.steps as usize;
         if !steps_later(rules, i + 1, steps, first, end) {
             return false;
         }
-        i += 1;
     }
     true
 }

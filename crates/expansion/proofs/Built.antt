@@ -11,7 +11,8 @@ use Rattle.kit.proofs.Bools.{same_test}
 use Rattle.kit.proofs.Laws.{length-decode, length-encode, then-decode, then-length}
 use Rattle.kit.proofs.Writes.{sets-front}
 use Rattle.events.specs.declared.Used.{Used}
-use Rattle.events.specs.Events.{Rule, Rules, rule_layout, step_layout, rules_of, steps_of, list_of, walks_of, rules_from}
+use Rattle.events.specs.Events.{Rules, rule_layout, step_layout, rules_of, steps_of, list_of, walks_of, rules_from}
+use Rattle.events.specs.declared.Rule.{Rule}
 use Rattle.events.specs.WellFormed.{room_for_rules}
 use Rattle.events.proofs.Says.{table-room, room_says, says_room}
 use Rattle.expansion.specs.Building.{Measured, Fillable, Buildable, TableIn}

@@ -9,7 +9,9 @@ use Rattle.kit.specs.Layout.{decode, encode}
 use Rattle.kit.proofs.Laws.{length-encode, decode-take, decode-encode, encode-append}
 use Rattle.kit.proofs.Writes.{sets-append, set_past}
 use Rattle.events.specs.declared.Used.{Used}
-use Rattle.events.specs.Events.{Rule, Step, Event, step_layout, rules_of, steps_of, walks_of, rules_from}
+use Rattle.events.specs.Events.{Event, step_layout, rules_of, steps_of, walks_of, rules_from}
+use Rattle.events.specs.declared.Rule.{Rule}
+use Rattle.events.specs.declared.Step.{Step}
 use Rattle.events.proofs.Fields.{left-rule}
 use Rattle.events.proofs.Order.{table-inside}
 use Rattle.events.proofs.Says.{table-room}

@@ -9,13 +9,14 @@ use native.Mathlib.Numerals.{add-one}
 use native.Mathlib.Omega.{arith}
 use lib.ListN.{length, take, drop, get_or, set, length-append, length-drop, length-set, drop_of_length-le}
 use lib.Seq.{length-take-le, get_or-take, get_or-drop, drop-drop, drop-cons, drop-set-lt, take-set-lt, get_or-set_same, lt-length-set}
-use Rattle.kit.specs.declared.Found.{Found}
-use Rattle.kit.specs.declared.Found.TheVariants.{At, Nothing}
+use Rattle.std.specs.Prelude.{Option, Some, None}
 use Rattle.kit.specs.Loops.{find_from}
 use Rattle.kit.proofs.Laws.{length-decode, left_none}
 use Rattle.kit.proofs.Steps.{found_at}
 use Rattle.events.specs.declared.Used.{Used}
-use Rattle.events.specs.Events.{Rule, Step, rule_layout, rules_of, steps_of, walk_of, event, walks_of}
+use Rattle.events.specs.Events.{rule_layout, rules_of, steps_of, walk_of, event, walks_of}
+use Rattle.events.specs.declared.Rule.{Rule}
+use Rattle.events.specs.declared.Step.{Step}
 use Rattle.events.proofs.Fields.{left-rule, step_at}
 use Rattle.expansion.specs.Expansion.{expand_node, expand_walk, expand_from}
 use Rattle.expansion.specs.Building.{Known, Measured}
@@ -26,7 +27,7 @@ use Rattle.expansion.proofs.Parts.{walk_next, walk_done}
 use Rattle.events.proofs.Walks.{length-turn}
 
 -- a rule that a lookup from `ahead` on finds is one of the n
-pub found_below : (p : Rule → Bool) (n ahead k : ℕ) (l : List ℕ) → find_from p ahead (drop ahead (rules_of n l)) ≡ At k → k < n
+pub found_below : (p : Rule → Bool) (n ahead k : ℕ) (l : List ℕ) → find_from p ahead (drop ahead (rules_of n l)) ≡ Some k → k < n
 found_below p n ahead k l e =
     let f = found_at p ahead k (drop ahead (rules_of n l)) e in
     omega (arith, f.low, f.high, length-drop ahead (rules_of n l), length-decode rule_layout n l)
@@ -46,15 +47,15 @@ module _ (steps : List Step) (s : Step) where
   size-node i ls [] e = refl
   size-node i ls (r ∷ rs) e = by (has_key_of s r) (size-node (i + 1) ls rs (tail_at i ls (capped (length (expand_walk steps rs (walk_of steps r)))) (sizes_of (expand_from steps rs)) e))
     where
-      by : (b : Bool) → size_at ls (find_from (has_key_of s) (i + 1) rs) ≡ capped (length (expand_node steps rs s)) → size_at ls (cond b (At i) (find_from (has_key_of s) (i + 1) rs)) ≡ capped (length (cond b (toward (is_forward s) (expand_walk steps rs (walk_of steps r))) (expand_node steps rs s)))
+      by : (b : Bool) → size_at ls (find_from (has_key_of s) (i + 1) rs) ≡ capped (length (expand_node steps rs s)) → size_at ls (cond b (Some i) (find_from (has_key_of s) (i + 1) rs)) ≡ capped (length (cond b (toward (is_forward s) (expand_walk steps rs (walk_of steps r))) (expand_node steps rs s)))
       by true go =
           head_at i ls (capped (length (expand_walk steps rs (walk_of steps r)))) (sizes_of (expand_from steps rs)) e
           ∙ ap capped (sym (same_length (is_forward s) (expand_walk steps rs (walk_of steps r))))
       by false go = go
 
-size-take : (p : Rule → Bool) (n ahead : ℕ) (l ls : List ℕ) (f : Found) → find_from p ahead (drop ahead (rules_of n l)) ≡ f → size_at ls f ≡ size_at (take n ls) f
-size-take p n ahead l ls (At k) e = sym (get_or-take n ls k 0 (found_below p n ahead k l e))
-size-take p n ahead l ls Nothing e = refl
+size-take : (p : Rule → Bool) (n ahead : ℕ) (l ls : List ℕ) (f : Option ℕ) → find_from p ahead (drop ahead (rules_of n l)) ≡ f → size_at ls f ≡ size_at (take n ls) f
+size-take p n ahead l ls (Some k) e = sym (get_or-take n ls k 0 (found_below p n ahead k l e))
+size-take p n ahead l ls None e = refl
 
 -- what the lookup of a node's length says, by the lengths that stand in lens
 pub node-size : (rules steps : List ℕ) (c : Used) (lens : List ℕ) (ahead : ℕ) (s : Step) → Known rules steps c lens ahead → size_at lens (find_from (has_key_of s) ahead (drop ahead (rules_of c.rules rules))) ≡ capped (length (node_in rules steps c ahead s))

@@ -11,7 +11,9 @@ use Rattle.kit.specs.Loops.{all, any, lines}
 use Rattle.kit.proofs.Bools.{and_true_l, and_true_r, and_both, or_neither, or_false_l, or_false_r, not_of}
 use Rattle.kit.proofs.Meaning.{all_append, any_append}
 use Rattle.handle.proofs.Handles.{id-flip}
-use Rattle.events.specs.Events.{Rule, Step, walk_of, keyed, turn_steps, walks_of, rules_from}
+use Rattle.events.specs.Events.{walk_of, keyed, turn_steps, walks_of, rules_from}
+use Rattle.events.specs.declared.Rule.{Rule}
+use Rattle.events.specs.declared.Step.{Step}
 use Rattle.events.specs.WellFormed.{steps_later, in_order_from}
 use Rattle.expansion.specs.Expansion.{expand_node, expand_walk, expand_from}
 use Rattle.expansion.specs.Filling.{toward}

@@ -11,7 +11,8 @@ use Rattle.kit.proofs.Laws.{length-decode, decode-at}
 use Rattle.handle.specs.declared.Handle.{Handle}
 use Rattle.handle.specs.Handle.{flip}
 use Rattle.events.specs.declared.Used.{Used}
-use Rattle.events.specs.Events.{Step, step, step_to, step_layout, steps_of, unpack_step}
+use Rattle.events.specs.Events.{step, step_to, step_layout, steps_of, unpack_step}
+use Rattle.events.specs.declared.Step.{Step}
 use Rattle.events.proofs.Fields.{step_at, left_step, step_at_lem}
 use Rattle.expansion.specs.Filling.{toward, part_of}
 use Rattle.expansion.proofs.Places.{numbers-same}

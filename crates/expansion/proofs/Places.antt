@@ -13,7 +13,9 @@ use Rattle.kit.specs.Layout.{Layout, decode}
 use Rattle.kit.specs.Loops.{all}
 use Rattle.kit.proofs.Laws.{alike_further}
 use Rattle.kit.proofs.Bools.{and_true_l}
-use Rattle.events.specs.Events.{Rule, Step, step_layout, steps_of, walk_of}
+use Rattle.events.specs.Events.{step_layout, steps_of, walk_of}
+use Rattle.events.specs.declared.Rule.{Rule}
+use Rattle.events.specs.declared.Step.{Step}
 use Rattle.expansion.specs.Expansion.{expand_node}
 use Rattle.expansion.specs.Filling.{lies}
 use Rattle.expansion.proofs.Nodes.{node-same}

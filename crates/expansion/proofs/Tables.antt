@@ -8,7 +8,9 @@ use borrow.Author.Tests.{le-leb}
 use lib.ListN.{length, drop, length-append}
 use Rattle.kit.specs.Loops.{all, sum}
 use Rattle.kit.proofs.Bools.{and_both}
-use Rattle.events.specs.Events.{Rule, Step, Rules, rule, Event, walk_of, append_all, append, walks_of, rules_from}
+use Rattle.events.specs.Events.{Rules, rule, Event, walk_of, append_all, append, walks_of, rules_from}
+use Rattle.events.specs.declared.Rule.{Rule}
+use Rattle.events.specs.declared.Step.{Step}
 use Rattle.expansion.specs.Expansion.{expand_walk, expand_from, expanded}
 use Rattle.expansion.specs.Filling.{lies}
 use Rattle.expansion.specs.Table.{rules_by, sizes_of}

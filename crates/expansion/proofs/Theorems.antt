@@ -12,7 +12,9 @@ use Rattle.kit.specs.Loops.{all, any, sum, lines}
 use Rattle.kit.proofs.Bools.{and_true_l, and_true_r, and_both}
 use Rattle.kit.proofs.Meaning.{all_append, sum-append}
 use Rattle.handle.specs.Handle.{id_of}
-use Rattle.events.specs.Events.{Rule, Step, Rules, rule, Event, event, walk_of, walks_of, rules_from}
+use Rattle.events.specs.Events.{Rules, rule, Event, event, walk_of, walks_of, rules_from}
+use Rattle.events.specs.declared.Rule.{Rule}
+use Rattle.events.specs.declared.Step.{Step}
 use Rattle.events.specs.WellFormed.{steps_later, in_order_from, in_order}
 use Rattle.expansion.specs.Expansion.{expand_node, expand_walk, expand_from, expanded}
 use Rattle.expansion.specs.Filling.{toward}

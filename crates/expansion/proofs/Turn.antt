@@ -14,7 +14,9 @@ use Rattle.kit.proofs.Meaning.{lines-append}
 use Rattle.handle.specs.declared.Handle.{Handle}
 use Rattle.handle.specs.Handle.{id_of, dir_of, flip}
 use Rattle.handle.proofs.Handles.{id-flip, dir_flip, flip-flip}
-use Rattle.events.specs.Events.{Rule, Step, step_to, walk_of, keyed, turn_steps}
+use Rattle.events.specs.Events.{step_to, walk_of, keyed, turn_steps}
+use Rattle.events.specs.declared.Rule.{Rule}
+use Rattle.events.specs.declared.Step.{Step}
 use Rattle.expansion.specs.Expansion.{expand_node, expand_walk}
 use Rattle.events.proofs.Walks.{length-turn}
 

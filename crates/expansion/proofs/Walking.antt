@@ -9,7 +9,7 @@ use borrow.Author.Tests.{leb-true, le-leb}
 use lib.Dec.{leb}
 use lib.ListN.{length, drop, get_or, length-append, length-drop}
 use lib.Seq.{sets, length-sets, drop-drop, get_or-drop}
-use Rattle.kit.specs.declared.Found.TheVariants.{At}
+use Rattle.std.specs.Prelude.{Some}
 use Rattle.kit.specs.Layout.{encode}
 use Rattle.kit.specs.Loops.{all, find_from}
 use Rattle.kit.proofs.Bools.{and_true_l, and_true_r, and_both}
@@ -18,7 +18,9 @@ use Rattle.kit.proofs.Meaning.{all-at, all_drop}
 use Rattle.kit.proofs.Steps.{found_at}
 use Rattle.kit.proofs.Writes.{sets-append}
 use Rattle.events.specs.declared.Used.{Used}
-use Rattle.events.specs.Events.{Rule, Step, step_layout, rule_layout, rules_of, steps_of, walk_of}
+use Rattle.events.specs.Events.{step_layout, rule_layout, rules_of, steps_of, walk_of}
+use Rattle.events.specs.declared.Rule.{Rule}
+use Rattle.events.specs.declared.Step.{Step}
 use Rattle.events.proofs.Fields.{rule_at, rule_is}
 use Rattle.expansion.specs.Expansion.{expand_walk}
 use Rattle.expansion.specs.Filling.{toward, part_of, node_in, walk_in, lies, Ready, Written}
@@ -112,7 +114,7 @@ pub record Hit (rules steps : List ℕ) (c : Used) (ahead at : ℕ) (s : Step) (
   pub inside : get_or rules (4 * j + 2) 0 + get_or rules (4 * j + 3) 0 ≤ c.steps
 
 module _ (rules steps : List ℕ) (c : Used) (ahead at : ℕ) (s : Step) (j : ℕ) where
-  pub hit : Ready rules steps c ahead at (node_in rules steps c ahead s) → find_from (has_key_of s) ahead (drop ahead (rules_of c.rules rules)) ≡ At j → Hit rules steps c ahead at s j
+  pub hit : Ready rules steps c ahead at (node_in rules steps c ahead s) → find_from (has_key_of s) ahead (drop ahead (rules_of c.rules rules)) ≡ Some j → Hit rules steps c ahead at s j
   hit r e =
       let rs = rules_of c.rules rules in
       let d = rule_at rules j in

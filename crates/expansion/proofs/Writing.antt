@@ -11,7 +11,8 @@ use Rattle.kit.specs.Loops.{sum}
 use Rattle.kit.proofs.Laws.{left_none}
 use Rattle.kit.proofs.Steps.{part_cons}
 use Rattle.kit.proofs.Writes.{sets-append}
-use Rattle.events.specs.Events.{Rule, rule, pack_rule, rule_layout, rules_of}
+use Rattle.events.specs.Events.{rule, pack_rule, rule_layout, rules_of}
+use Rattle.events.specs.declared.Rule.{Rule}
 use Rattle.events.proofs.Fields.{left-rule}
 use Rattle.expansion.specs.Table.{rules_by}
 

@@ -2,7 +2,9 @@
 use Rattle.std.specs.Prelude.{cond, List, [], ◌∷◌, eqb}
 use Rattle.kit.specs.Loops.{lines}
 use Rattle.handle.specs.Handle.{id_of, dir_of}
-use Rattle.events.specs.Events.{Rule, Step, Rules, Event, event, walk_of, keyed, turn_steps, append_all}
+use Rattle.events.specs.Events.{Rules, Event, event, walk_of, keyed, turn_steps, append_all}
+use Rattle.events.specs.declared.Rule.{Rule}
+use Rattle.events.specs.declared.Step.{Step}
 
 -- a node's expansion by the events still ahead: that of its rule's walk, by the events after the rule, reversed and
 -- flipped for a reversed step; the step itself where it has no rule

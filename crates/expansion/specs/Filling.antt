@@ -4,7 +4,9 @@ use Rattle.std.proofs.lemmas.List.Edits.{sets}
 use Rattle.kit.specs.Layout.{encode}
 use Rattle.kit.specs.Loops.{all}
 use Rattle.events.specs.declared.Used.{Used}
-use Rattle.events.specs.Events.{Rule, Step, step_layout, rules_of, steps_of, turn_steps}
+use Rattle.events.specs.Events.{step_layout, rules_of, steps_of, turn_steps}
+use Rattle.events.specs.declared.Rule.{Rule}
+use Rattle.events.specs.declared.Step.{Step}
 use Rattle.expansion.specs.Expansion.{expand_node, expand_walk}
 
 -- a walk as it stands, or reversed and flipped

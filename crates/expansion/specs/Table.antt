@@ -1,9 +1,8 @@
 -- The table that a list of events gives when its walks stand one after another, and the lengths of its walks.
-use Rattle.std.specs.Prelude.{ℕ, ◌+◌, min, List, [], ◌∷◌, map, length, get_or}
-use Rattle.kit.specs.declared.Found.{Found}
-use Rattle.kit.specs.declared.Found.TheVariants.{At, Nothing}
+use Rattle.std.specs.Prelude.{ℕ, ◌+◌, min, List, [], ◌∷◌, map, length, get_or, Option, Some, None}
 use Rattle.events.specs.declared.Used.{Used}
-use Rattle.events.specs.Events.{Rule, rule, rules_of, steps_of, Event}
+use Rattle.events.specs.Events.{rule, rules_of, steps_of, Event}
+use Rattle.events.specs.declared.Rule.{Rule}
 use Rattle.expansion.specs.Expansion.{expand_from}
 
 -- the same rules from the keys of a list and the lengths of the walks
@@ -20,9 +19,9 @@ abbrev pub sizes_of : List Event → List ℕ
 sizes_of es = map (λ e. capped (length e.walk)) es
 
 -- a node's length, by what a lookup of its rule answers and the lengths of the rules' walks
-abbrev pub size_at : List ℕ → Found → ℕ
-size_at ls (At j) = get_or ls j 0
-size_at ls Nothing = 1
+abbrev pub size_at : List ℕ → Option ℕ → ℕ
+size_at ls (Some j) = get_or ls j 0
+size_at ls None = 1
 
 -- the expanded events of a list in two lent arrays
 abbrev pub events_in : List ℕ → List ℕ → Used → List Event

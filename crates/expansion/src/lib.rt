@@ -14,23 +14,21 @@ ghost use Rattle.expansion.specs.Building.{Known, Measured, Fillable, Buildable,
 ghost use Rattle.expansion.specs.Expansion.{expanded};
 ghost use Rattle.expansion.specs.Filling.{toward, part_of, event_walk, node_in, walk_in, Ready, Written};
 
-use events::Used;
+use events::{Rule, Step, Used};
 use handle::Handle;
-use kit::Found;
 
 // The slot of the first rule under this key at slot `start` or later.
-fn next_rule(rules: &[u64], count: usize, start: usize, id: u64, len: u64) -> Found
+fn next_rule(rules: &[u64], count: usize, start: usize, id: u64, len: u64) -> Option<usize>
     requires { 4 * count ≤ length rules.now }
     ensures { result ≡ find_from (keyed id len) start (drop start (rules_of count rules.now)) }
 {
-    let mut i = start;
-    while i < count {
-        if events::same_key(rules[4 * i], rules[4 * i + 1], id, len) {
-            return Found::At(i);
+    for i in start..count {
+        let r = Rule::at(rules, i);
+        if events::same_key(r.id, r.len, id, len) {
+            return Some(i);
         }
-        i += 1;
     }
-    Found::Nothing
+    None
 }
 
 // Which of a walk's n steps comes k-th, where it is turned counted from its end.
@@ -53,14 +51,6 @@ fn turned(node: Handle, forward: bool) -> Handle
     node.flip()
 }
 
-fn put_step(steps: &mut [u64], at: usize, node: Handle, len: u64)
-    requires { 2 * at + 2 ≤ length steps.old }
-    ensures { steps.new ≡ sets steps.old (2 * at) (pack_step (step_to node len)) }
-{
-    steps[2 * at] = node.packed;
-    steps[2 * at + 1] = len;
-}
-
 // Writes what a node expands to by the table's rules from `ahead` on, from step `at` on; the step after it.
 #[cycle(expand_node_expand_walk)]
 fn expand_node(
@@ -75,14 +65,23 @@ fn expand_node(
     requires { Ready rules.now steps.old c ahead at (node_in rules.now steps.old c ahead (step_to node len)) }
     ensures { Written steps.old at (node_in rules.now steps.old c ahead (step_to node len)) steps.new result }
 {
-    let Found::At(j) = next_rule(rules, c.rules, ahead, node.id(), len) else {
-        put_step(steps, at, node, len);
+    let Some(j) = next_rule(rules, c.rules, ahead, node.id(), len) else {
+        let s = Step { node, len };
+        s.put(steps, at);
         return at + 1;
     };
     let forward = node.direction() == Handle::FORWARD;
-    let first = rules[4 * j + 2] as usize;
-    let n = rules[4 * j + 3] as usize;
-    expand_walk(rules, c, j + 1, steps, first, n, forward, at)
+    let r = Rule::at(rules, j);
+    expand_walk(
+        rules,
+        c,
+        j + 1,
+        steps,
+        r.first as usize,
+        r.steps as usize,
+        forward,
+        at,
+    )
 }
 
 // The same of a walk of the table, each of its nodes in turn.
@@ -103,15 +102,9 @@ fn expand_walk(
     ensures { Written steps.old at (walk_in rules.now steps.old c ahead (toward forward (part_of steps.old c first n))) steps.new result }
 {
     let mut next = at;
-    let mut k: usize = 0;
-    while k < n {
-        let p = first + nth(n, k, forward);
-        let node = Handle {
-            packed: steps[2 * p],
-        };
-        let len = steps[2 * p + 1];
-        next = expand_node(rules, c, ahead, steps, turned(node, forward), len, next);
-        k += 1;
+    for k in 0..n {
+        let s = Step::at(steps, first + nth(n, k, forward));
+        next = expand_node(rules, c, ahead, steps, turned(s.node, forward), s.len, next);
     }
     next
 }
@@ -131,7 +124,7 @@ fn node_len(rules: &[u64], count: usize, lens: &[u64], ahead: usize, id: u64, le
     requires { (4 * count ≤ length rules.now) × (count ≤ length lens.now) }
     ensures { result ≡ size_at lens.now (find_from (keyed id len) ahead (drop ahead (rules_of count rules.now))) }
 {
-    let Found::At(j) = next_rule(rules, count, ahead, id, len) else {
+    let Some(j) = next_rule(rules, count, ahead, id, len) else {
         return 1;
     };
     lens[j]
@@ -151,14 +144,10 @@ fn walk_len(
     ensures { result ≡ capped (length (walk_in rules.now steps.now c ahead (part_of steps.now c first n))) }
 {
     let mut total: u64 = 0;
-    let mut k: usize = 0;
-    while k < n {
+    for k in 0..n {
         let p = first + k;
-        let node = Handle {
-            packed: steps[2 * p],
-        };
-        total = capped(total + node_len(rules, c.rules, lens, ahead, node.id(), steps[2 * p + 1]));
-        k += 1;
+        let s = Step::at(steps, p);
+        total = capped(total + node_len(rules, c.rules, lens, ahead, s.node.id(), s.len));
     }
     total
 }
@@ -169,26 +158,21 @@ pub fn measure(rules: &[u64], steps: &[u64], c: Used, lens: &mut [u64]) -> u64
     ensures { Measured rules.now steps.now c lens.new result }
 {
     let mut total: u64 = 0;
-    let mut i = c.rules;
-    while 0 < i {
-        i -= 1;
-        let first = rules[4 * i + 2] as usize;
-        let n = rules[4 * i + 3] as usize;
-        let m = walk_len(rules, steps, c, lens, i + 1, first, n);
+    for i in (0..c.rules).rev() {
+        let r = Rule::at(rules, i);
+        let m = walk_len(
+            rules,
+            steps,
+            c,
+            lens,
+            i + 1,
+            r.first as usize,
+            r.steps as usize,
+        );
         lens[i] = m;
         total = capped(total + m);
     }
     total
-}
-
-fn put_rule(rules: &mut [u64], i: usize, id: u64, len: u64, first: u64, steps: u64)
-    requires { 4 * i + 4 ≤ length rules.old }
-    ensures { rules.new ≡ sets rules.old (4 * i) (pack_rule (rule id len first steps)) }
-{
-    rules[4 * i] = id;
-    rules[4 * i + 1] = len;
-    rules[4 * i + 2] = first;
-    rules[4 * i + 3] = steps;
 }
 
 // The table's rules: the events' keys in their order, their walks one after another.
@@ -197,12 +181,15 @@ fn write_rules(rules: &[u64], count: usize, lens: &[u64], out: &mut [u64])
     ensures { out.new ≡ sets out.old 0 (encode rule_layout (rules_by 0 (rules_of count rules.now) (take count lens.now))) }
 {
     let mut first: u64 = 0;
-    let mut i: usize = 0;
-    while i < count {
+    for i in 0..count {
         let n = lens[i];
-        put_rule(out, i, rules[4 * i], rules[4 * i + 1], first, n);
+        let r = Rule {
+            first,
+            steps: n,
+            ..Rule::at(rules, i)
+        };
+        r.put(out, i);
         first += n;
-        i += 1;
     }
 }
 
@@ -213,18 +200,13 @@ fn expand_event(rules: &[u64], steps: &[u64], table: &[u64], d: Used, out: &mut 
         × Ready table.now out.old d (i + 1) (get_or table.now (4 * i + 2) 0) (walk_in table.now out.old d (i + 1) (event_walk rules.now steps.now i)) }
     ensures { out.new ≡ sets out.old (2 * get_or table.now (4 * i + 2) 0) (encode step_layout (walk_in table.now out.old d (i + 1) (event_walk rules.now steps.now i))) }
 {
-    let first = rules[4 * i + 2] as usize;
-    let n = rules[4 * i + 3] as usize;
-    let mut next = table[4 * i + 2] as usize;
-    let mut k: usize = 0;
-    while k < n {
-        let p = first + k;
-        let node = Handle {
-            packed: steps[2 * p],
-        };
-        let len = steps[2 * p + 1];
-        next = expand_node(table, d, i + 1, out, node, len, next);
-        k += 1;
+    let r = Rule::at(rules, i);
+    let first = r.first as usize;
+    let n = r.steps as usize;
+    let mut next = Rule::at(table, i).first as usize;
+    for k in 0..n {
+        let s = Step::at(steps, first + k);
+        next = expand_node(table, d, i + 1, out, s.node, s.len, next);
     }
 }
 
@@ -233,10 +215,8 @@ fn fill(rules: &[u64], steps: &[u64], c: Used, table: &[u64], d: Used, out: &mut
     requires { Fillable rules.now steps.now c table.now out.old d }
     ensures { out.new ≡ sets out.old 0 (encode step_layout (walks_of (events_in rules.now steps.now c))) }
 {
-    let mut done: usize = 0;
-    while done < c.rules {
-        expand_event(rules, steps, table, d, out, c.rules - 1 - done);
-        done += 1;
+    for i in (0..c.rules).rev() {
+        expand_event(rules, steps, table, d, out, i);
     }
 }
 

@@ -8,6 +8,7 @@ use events::Used;
 use store::Counts;
 
 // Everything is decided before the first store, so that a refusal changes nothing.
+#[tactic(auto, unfolding(crate::specs::Collapse::collapse_outcome))]
 pub fn collapse(
     nodes: &mut [u64],
     text: &[u8],
@@ -21,9 +22,8 @@ pub fn collapse(
 ) -> Collapsed
     ensures { outcome result (lent nodes.new links.new rules.new steps.new) ≡ collapse_outcome (lent nodes.old links.old rules.old steps.old) text.now c u members.now p }
 {
-    let number = collapsing::number::state_number(nodes, text, links, c, rules, steps, u);
-    if number != 0 {
-        return collapsing::refuse(number, c, u);
+    if let Err(why) = collapsing::number::state_number(nodes, text, links, c, rules, steps, u) {
+        return collapsing::refuse(why, c, u);
     }
     collapsing::collapse_group(nodes, text, links, c, rules, steps, u, members, p)
 }

@@ -1,14 +1,16 @@
 // The driver: collapses group after group until none is left that it must collapse.
 ghost use Rattle.std.specs.Prelude.{◌≡◌};
+ghost use Rattle.kit.specs.Refusal.{number_of};
 ghost use Rattle.collapsing.specs.Outcome.{lent};
 ghost use Rattle.driver.specs.Outcome.{outcome};
 ghost use Rattle.folding.specs.CollapseAll.{driver_number, collapse_all_outcome};
 
 use driver::Driven;
 use events::Used;
+use kit::Refusal;
 use store::Counts;
 
-// 13 and 5 of graph and events, 5 and 6 of the protected ids, 12 of the events, then 7, else 0.
+// 13 and 5 of graph and events, 5 and 6 of the protected ids, 12 of the events, then 7.
 fn driver_number(
     nodes: &[u64],
     text: &[u8],
@@ -18,29 +20,27 @@ fn driver_number(
     steps: &[u64],
     u: Used,
     protected: &[u64],
-) -> u64
-    ensures { result ≡ driver_number (lent nodes.now links.now rules.now steps.now) text.now c u protected.now }
+) -> Result<(), Refusal>
+    ensures { number_of result ≡ driver_number (lent nodes.now links.now rules.now steps.now) text.now c u protected.now }
 {
-    let number = collapsing::number::state_number(nodes, text, links, c, rules, steps, u);
-    if number != 0 {
-        return number;
-    }
+    collapsing::number::state_number(nodes, text, links, c, rules, steps, u)?;
     if !protected::ids_apart(protected) {
-        return 5;
+        return Err(Refusal::Twice);
     }
     if !protected::ids_stored(nodes, c.nodes, protected) {
-        return 6;
+        return Err(Refusal::Absent);
     }
     if !events::in_order(rules, steps, u) {
-        return 12;
+        return Err(Refusal::Later);
     }
     if 4096 < protected.len() {
-        return 7;
+        return Err(Refusal::Room);
     }
-    0
+    Ok(())
 }
 
 // A refused collapse ends it, and what was made before stays.
+#[tactic(auto, unfolding(crate::specs::CollapseAll::collapse_all_outcome))]
 pub fn collapse_all(
     nodes: &mut [u64],
     text: &[u8],
@@ -53,9 +53,8 @@ pub fn collapse_all(
 ) -> Driven
     ensures { outcome result (lent nodes.new links.new rules.new steps.new) ≡ collapse_all_outcome (lent nodes.old links.old rules.old steps.old) text.now c u protected.now }
 {
-    let number = driver_number(nodes, text, links, c, rules, steps, u, protected);
-    if number != 0 {
-        return driver::refuse(number, c, u);
+    if let Err(why) = driver_number(nodes, text, links, c, rules, steps, u, protected) {
+        return driver::refuse(why.number(), c, u);
     }
     driver::drive::drive(nodes, text, links, c, rules, steps, u, protected)
 }

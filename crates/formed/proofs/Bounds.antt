@@ -9,7 +9,8 @@ use Rattle.kit.proofs.Laws.{length-decode}
 use Rattle.kit.proofs.Meaning.{all-at}
 use Rattle.kit.proofs.Steps.{sum_bound}
 use Rattle.store.specs.declared.Counts.{Counts}
-use Rattle.store.specs.Graph.{Node, node_layout, nodes_of}
+use Rattle.store.specs.Graph.{node_layout, nodes_of}
+use Rattle.store.specs.declared.Node.{Node}
 use Rattle.store.specs.Views.{unmarked_node, live_len, live_letters}
 use Rattle.formed.specs.WellFormed.{good_node, well_formed}
 use Rattle.formed.proofs.Says.{node_says, formed_room, formed_good}

@@ -14,7 +14,9 @@ use Rattle.handle.specs.Handle.{max_id, is_id, id_of}
 use Rattle.handle.specs.Edge.{written, same_ends}
 use Rattle.handle.proofs.Edges.{same_ends_lem, ends-refl}
 use Rattle.store.specs.declared.Counts.{Counts}
-use Rattle.store.specs.Graph.{Node, Link, Graph, ends, graph_of, nodes_of}
+use Rattle.store.specs.Graph.{Graph, ends, graph_of, nodes_of}
+use Rattle.store.specs.declared.Node.{Node}
+use Rattle.store.specs.declared.Link.{Link}
 use Rattle.store.specs.Views.{stored, span}
 use Rattle.formed.specs.WellFormed.{room_for, is_mark, good_node, good_link, links_once, good_graph, well_formed, ids_once, graph_number}
 use Rattle.kit.proofs.Meaning.{all_mem, all_of}

@@ -6,7 +6,9 @@ use Rattle.letters.specs.Sequences.{all_letters}
 use Rattle.handle.specs.Handle.{is_id, id_of}
 use Rattle.handle.specs.Edge.{written, same_ends}
 use Rattle.store.specs.declared.Counts.{Counts}
-use Rattle.store.specs.Graph.{Node, Link, Graph, ends, graph_of, nodes_of}
+use Rattle.store.specs.Graph.{Graph, ends, graph_of, nodes_of}
+use Rattle.store.specs.declared.Node.{Node}
+use Rattle.store.specs.declared.Link.{Link}
 use Rattle.store.specs.Views.{named, stored, span, unmarked_node}
 
 -- counts inside the lent arrays and the limits

@@ -3,94 +3,78 @@
 
 ghost use Rattle.std.specs.Prelude.{◌+◌, ◌*◌, ◌≤◌, ◌≡◌, length, take, drop};
 ghost use Rattle.kit.specs.Loops.{all, any};
+ghost use Rattle.kit.specs.Refusal.{number_of};
 ghost use Rattle.handle.specs.Edge.{edge, same_ends};
 ghost use Rattle.store.specs.Graph.{node, link, ends, nodes_of, links_of};
 ghost use Rattle.store.specs.Views.{unmarked_node};
 ghost use Rattle.formed.specs.WellFormed.{room_for, good_node, good_link, links_once, ids_once, unmarked_link, well_formed, old_formed, graph_number};
 
 use handle::{Edge, Handle};
-use store::{Counts, stored_from};
+use kit::Refusal;
+use store::{Counts, Link, Node, stored_from};
 
 // The tests are in an order in which none can overflow.
-fn good_node(text: &[u8], id: u64, start: u64, len: u64, mark: u64) -> bool
-    ensures { result ≡ good_node text.now (node id start len mark) }
+fn good_node(text: &[u8], r: Node) -> bool
+    ensures { result ≡ good_node text.now r }
 {
-    if id < 1 {
+    if r.id < 1 {
         return false;
     }
-    if Handle::MAX_ID < id {
+    if Handle::MAX_ID < r.id {
         return false;
     }
-    if 1 < mark {
+    if 1 < r.mark {
         return false;
     }
-    if len < 1 {
+    if r.len < 1 {
         return false;
     }
-    if (text.len() as u64) < len {
+    if (text.len() as u64) < r.len {
         return false;
     }
-    if text.len() as u64 - len < start {
+    if text.len() as u64 - r.len < r.start {
         return false;
     }
-    let first = start as usize;
-    letters::all_letters(&text[first..first + len as usize])
+    let first = r.start as usize;
+    letters::all_letters(&text[first..first + r.len as usize])
 }
 
 fn good_nodes(nodes: &[u64], count: usize, text: &[u8]) -> bool
     requires { 4 * count ≤ length nodes.now }
     ensures { result ≡ all (good_node text.now) (nodes_of count nodes.now) }
 {
-    let mut i: usize = 0;
-    while i < count {
-        if !good_node(
-            text,
-            nodes[4 * i],
-            nodes[4 * i + 1],
-            nodes[4 * i + 2],
-            nodes[4 * i + 3],
-        ) {
+    for i in 0..count {
+        if !good_node(text, Node::at(nodes, i)) {
             return false;
         }
-        i += 1;
     }
     true
 }
 
-fn good_link(nodes: &[u64], count: usize, from: Handle, to: Handle, mark: u64) -> bool
+fn good_link(nodes: &[u64], count: usize, l: Link) -> bool
     requires { 4 * count ≤ length nodes.now }
-    ensures { result ≡ good_link (nodes_of count nodes.now) (link (edge from to) mark) }
+    ensures { result ≡ good_link (nodes_of count nodes.now) l }
 {
-    if 1 < mark {
+    if 1 < l.mark {
         return false;
     }
-    let written = Edge::written(from, to);
-    if !written.same(Edge { from, to }) {
+    if Edge::written(l.from, l.to) != l.ends() {
         return false;
     }
-    if !stored_from(nodes, count, 0, from.id()) {
+    if !stored_from(nodes, count, 0, l.from.id()) {
         return false;
     }
-    stored_from(nodes, count, 0, to.id())
+    stored_from(nodes, count, 0, l.to.id())
 }
 
 fn good_links(nodes: &[u64], links: &[u64], c: Counts) -> bool
     requires { (4 * c.nodes ≤ length nodes.now) × (3 * c.links ≤ length links.now) }
     ensures { result ≡ all (good_link (nodes_of c.nodes nodes.now)) (links_of c.links links.now) }
 {
-    let count = c.links;
-    let mut i: usize = 0;
-    while i < count {
-        let from = Handle {
-            packed: links[3 * i],
-        };
-        let to = Handle {
-            packed: links[3 * i + 1],
-        };
-        if !good_link(nodes, c.nodes, from, to, links[3 * i + 2]) {
+    for i in 0..c.links {
+        if !good_link(nodes, c.nodes, Link::at(links, i)) {
             return false;
         }
-        i += 1;
     }
     true
 }
@@ -100,18 +84,10 @@ fn link_again(links: &[u64], count: usize, start: usize, e: Edge) -> bool
     requires { 3 * count ≤ length links.now }
     ensures { result ≡ any (λ s. same_ends e (ends s)) (drop start (links_of count links.now)) }
 {
-    let mut i = start;
-    while i < count {
-        let from = Handle {
-            packed: links[3 * i],
-        };
-        let to = Handle {
-            packed: links[3 * i + 1],
-        };
-        if e.same(Edge { from, to }) {
+    for i in start..count {
+        if e == Link::at(links, i).ends() {
             return true;
         }
-        i += 1;
     }
     false
 }
@@ -120,18 +96,10 @@ fn links_once(links: &[u64], count: usize) -> bool
     requires { 3 * count ≤ length links.now }
     ensures { result ≡ links_once (links_of count links.now) }
 {
-    let mut i: usize = 0;
-    while i < count {
-        let from = Handle {
-            packed: links[3 * i],
-        };
-        let to = Handle {
-            packed: links[3 * i + 1],
-        };
-        if link_again(links, count, i + 1, Edge { from, to }) {
+    for i in 0..count {
+        if link_again(links, count, i + 1, Link::at(links, i).ends()) {
             return false;
         }
-        i += 1;
     }
     true
 }
@@ -140,12 +108,10 @@ pub fn ids_once(nodes: &[u64], count: usize) -> bool
     requires { 4 * count ≤ length nodes.now }
     ensures { result ≡ ids_once (nodes_of count nodes.now) }
 {
-    let mut i: usize = 0;
-    while i < count {
-        if stored_from(nodes, count, i + 1, nodes[4 * i]) {
+    for i in 0..count {
+        if stored_from(nodes, count, i + 1, Node::at(nodes, i).id) {
             return false;
         }
-        i += 1;
     }
     true
 }
@@ -192,12 +158,10 @@ fn unmarked_nodes(nodes: &[u64], count: usize) -> bool
     requires { 4 * count ≤ length nodes.now }
     ensures { result ≡ all unmarked_node (nodes_of count nodes.now) }
 {
-    let mut i: usize = 0;
-    while i < count {
-        if nodes[4 * i + 3] != 0 {
+    for i in 0..count {
+        if Node::at(nodes, i).mark != 0 {
             return false;
         }
-        i += 1;
     }
     true
 }
@@ -206,12 +170,10 @@ fn unmarked_links(links: &[u64], count: usize) -> bool
     requires { 3 * count ≤ length links.now }
     ensures { result ≡ all unmarked_link (links_of count links.now) }
 {
-    let mut i: usize = 0;
-    while i < count {
-        if links[3 * i + 2] != 0 {
+    for i in 0..count {
+        if Link::at(links, i).mark != 0 {
             return false;
         }
-        i += 1;
     }
     true
 }
@@ -229,15 +191,15 @@ pub fn old_formed(nodes: &[u64], text: &[u8], links: &[u64], c: Counts) -> bool
     unmarked_links(links, c.links)
 }
 
-// 13, else 5, else 0.
-pub fn graph_number(nodes: &[u64], text: &[u8], links: &[u64], c: Counts) -> u64
-    ensures { result ≡ graph_number nodes.now text.now links.now c }
+// 13, else 5.
+pub fn graph_number(nodes: &[u64], text: &[u8], links: &[u64], c: Counts) -> Result<(), Refusal>
+    ensures { number_of result ≡ graph_number nodes.now text.now links.now c }
 {
     if !well_formed(nodes, text, links, c) {
-        return 13;
+        return Err(Refusal::Malformed);
     }
     if !ids_once(nodes, c.nodes) {
-        return 5;
+        return Err(Refusal::Twice);
     }
-    0
+    Ok(())
 }

@@ -1,8 +1,7 @@
 // Files by name. What goes to a file stands beside it under NAME.part until all of it is there.
-ghost use Rattle.std.specs.Prelude.{◌≤◌};
+ghost use Rattle.std.specs.Prelude.{IfOk};
 ghost use Rattle.std.specs.Counts.{IsPrefixLen};
 
-use cases::input::same_word;
 use kit::put_bytes;
 use request::ask::is_standard;
 use std::fs::{OpenFile, OpenOptions};
@@ -29,63 +28,40 @@ pub(crate) const EROFS: i32 = 30;
 
 pub(crate) const ENAMETOOLONG: i32 = 36;
 
-// How many bytes were read, or why they were not: C's number for it, else 0.
-#[derive(Drop)]
-pub struct Got {
-    pub error: i32,
-    pub len: usize,
-}
-
 // Which file could not be written, and why.
 #[derive(Drop)]
-pub struct Saved {
-    pub out: bool,
-    pub error: i32,
+pub(crate) enum Unsaved {
+    Out(io::Error),
+    Table(io::Error),
 }
 
 // Why a call failed.
 pub(crate) fn reason(e: io::Error) -> i32 {
-    let error = e.raw_os_error().unwrap_or(EIO);
-    if error == 0 {
-        return EIO;
+    match e.raw_os_error() {
+        None | Some(0) => EIO,
+        Some(error) => error,
     }
-    error
 }
 
-// A read that moved nothing has failed, or is at the end.
-fn stop(got: io::Result<usize>, len: usize) -> Got
-    ensures { result.len ≤ len }
-{
-    if let Err(e) = got {
-        return Got {
-            error: reason(e),
-            len: 0,
-        };
-    }
-    Got { error: 0, len }
-}
-
-fn fill(from: &mut impl Read, buf: &mut [u8]) -> Got
-    ensures { IsPrefixLen result.len buf.new }
+// How many bytes were read. A read that moves nothing is at the end.
+fn fill(from: &mut impl Read, buf: &mut [u8]) -> io::Result<usize>
+    ensures { IfOk result (λ n. IsPrefixLen n buf.new) }
 {
     let mut at: usize = 0;
+    // The place moves by what a read brings, so it is no count.
     while at < buf.len() {
-        let got = from.read(&mut buf[at..]);
-        let n = got.unwrap_or(0);
+        let n = from.read(&mut buf[at..])?;
         if n == 0 {
-            return stop(got, at);
+            return Ok(at);
         }
         at += n;
     }
-    Got { error: 0, len: at }
+    Ok(at)
 }
 
 // A name as std takes it, which is text.
 fn as_text(name: &[u8]) -> io::Result<&str> {
-    match str::from_utf8(name) {
-        Ok(text) => Ok(text),
-        Err(_) => Err(io::Error::from(io::ErrorKind::InvalidInput)),
-    }
+    str::from_utf8(name).map_err(|_| io::Error::from(io::ErrorKind::InvalidInput))
 }
 
 fn open_read<R: Files>(rt: &R, name: &[u8]) -> io::Result<R::File> {
@@ -113,160 +89,115 @@ fn rename(rt: &impl Files, from: &[u8], to: &[u8]) -> io::Result<()> {
 }
 
 // A file's bytes, as far as there is room for them.
-pub(crate) fn read(rt: &(impl Files + Input), name: &[u8], buf: &mut [u8]) -> Got
-    ensures { IsPrefixLen result.len buf.new }
+pub(crate) fn read(rt: &(impl Files + Input), name: &[u8], buf: &mut [u8]) -> io::Result<usize>
+    ensures { IfOk result (λ n. IsPrefixLen n buf.new) }
 {
     if is_standard(name) {
         return fill(&mut rt.reader(), buf);
     }
-    match open_read(rt, name) {
-        Ok(mut file) => fill(&mut file, buf),
-        Err(e) => stop(Err(e), 0),
-    }
+    let mut file = open_read(rt, name)?;
+    fill(&mut file, buf)
 }
 
-// NAME.part, and how long it is; 0 where there is no room for it.
-fn part(name: &[u8], path: &mut [u8]) -> usize
-    ensures { IsPrefixLen result path.new }
+// NAME.part, and how long it is.
+fn part(name: &[u8], path: &mut [u8]) -> io::Result<usize>
+    ensures { IfOk result (λ n. IsPrefixLen n path.new) }
 {
-    if path.len() < 5 {
-        return 0;
-    }
-    if path.len() - 5 < name.len() {
-        return 0;
+    if path.len() < 5 || path.len() - 5 < name.len() {
+        return Err(io::Error::from_raw_os_error(ENAMETOOLONG));
     }
     let at = put_bytes(path, 0, name);
-    put_bytes(path, at, b".part")
+    Ok(put_bytes(path, at, b".part"))
 }
 
 // What was written is waited for, since some failures come that late. A device has nothing to wait for.
-fn settle(file: &impl OpenFile) -> i32 {
-    let Err(e) = file.sync_all() else {
-        return 0;
-    };
-    if e.kind() == io::ErrorKind::InvalidInput {
-        return 0;
+fn settle(file: &impl OpenFile) -> io::Result<()> {
+    match file.sync_all() {
+        Err(e) if e.kind() == io::ErrorKind::InvalidInput => Ok(()),
+        Err(e) if e.kind() == io::ErrorKind::Unsupported => Ok(()),
+        done => done,
     }
-    if e.kind() == io::ErrorKind::Unsupported {
-        return 0;
-    }
-    reason(e)
 }
 
 // The file is closed at the end, whether or not all went into it.
-fn write(mut file: impl Write + OpenFile + Drop, bytes: &[u8]) -> i32 {
-    if let Err(e) = file.write_all(bytes) {
-        return reason(e);
-    }
+fn write(mut file: impl Write + OpenFile + Drop, bytes: &[u8]) -> io::Result<()> {
+    file.write_all(bytes)?;
     settle(&file)
 }
 
 // A part that could not be written whole does not stay.
-fn write_part(rt: &impl Files, name: &[u8], bytes: &[u8]) -> i32 {
+fn write_part(rt: &impl Files, name: &[u8], bytes: &[u8]) -> io::Result<()> {
     let mut path = [0u8; 4096];
-    let n = part(name, &mut path);
-    if n == 0 {
-        return ENAMETOOLONG;
-    }
-    let file = match create(rt, &path[..n]) {
-        Ok(file) => file,
-        Err(e) => return reason(e),
-    };
-    let error = write(file, bytes);
-    if error != 0 {
+    let n = part(name, &mut path)?;
+    let file = create(rt, &path[..n])?;
+    let written = write(file, bytes);
+    if written.is_err() {
         let _ = unlink(rt, &path[..n]);
     }
-    error
+    written
 }
 
-fn drop_part(rt: &impl Files, name: &[u8]) {
+fn drop_part(rt: &impl Files, name: &[u8]) -> io::Result<()> {
     let mut path = [0u8; 4096];
-    let n = part(name, &mut path);
-    let _ = unlink(rt, &path[..n]);
+    let n = part(name, &mut path)?;
+    unlink(rt, &path[..n])
 }
 
-fn keep_part(rt: &impl Files, name: &[u8]) -> i32 {
+fn keep_part(rt: &impl Files, name: &[u8]) -> io::Result<()> {
     let mut path = [0u8; 4096];
-    let n = part(name, &mut path);
-    if let Err(e) = rename(rt, &path[..n], name) {
+    let n = part(name, &mut path)?;
+    let renamed = rename(rt, &path[..n], name);
+    if renamed.is_err() {
         let _ = unlink(rt, &path[..n]);
-        return reason(e);
     }
-    0
+    renamed
 }
 
 // A device is written as it stands: a rename would put a file in its place.
 fn in_place(name: &[u8]) -> bool {
-    if name.len() < 5 {
-        return false;
-    }
-    same_word(&name[..5], b"/dev/")
+    name.starts_with(b"/dev/")
 }
 
-fn begin(rt: &impl Files, name: &[u8], bytes: &[u8]) -> i32 {
-    if is_standard(name) {
-        return 0;
-    }
-    if in_place(name) {
-        return 0;
+fn begin(rt: &impl Files, name: &[u8], bytes: &[u8]) -> io::Result<()> {
+    if is_standard(name) || in_place(name) {
+        return Ok(());
     }
     write_part(rt, name, bytes)
 }
 
 fn undo(rt: &impl Files, name: &[u8]) {
-    if is_standard(name) {
+    if is_standard(name) || in_place(name) {
         return;
     }
-    if in_place(name) {
-        return;
-    }
-    drop_part(rt, name);
+    let _ = drop_part(rt, name);
 }
 
-fn finish(rt: &impl Files, name: &[u8], bytes: &[u8]) -> i32 {
+fn finish(rt: &impl Files, name: &[u8], bytes: &[u8]) -> io::Result<()> {
     if is_standard(name) {
-        return 0;
+        return Ok(());
     }
     if !in_place(name) {
         return keep_part(rt, name);
     }
-    match open_overwrite(rt, name) {
-        Ok(file) => write(file, bytes),
-        Err(e) => reason(e),
-    }
+    write(open_overwrite(rt, name)?, bytes)
 }
 
 // Both files, or the one that has a name. The first takes its name once both are whole.
-pub(crate) fn save(rt: &impl Files, out: &[u8], page: &[u8], table: &[u8], rows: &[u8]) -> Saved {
-    let first = begin(rt, out, page);
-    if first != 0 {
-        return Saved {
-            out: true,
-            error: first,
-        };
-    }
-    let second = begin(rt, table, rows);
-    if second != 0 {
+pub(crate) fn save(
+    rt: &impl Files,
+    out: &[u8],
+    page: &[u8],
+    table: &[u8],
+    rows: &[u8],
+) -> Result<(), Unsaved> {
+    begin(rt, out, page).map_err(Unsaved::Out)?;
+    if let Err(e) = begin(rt, table, rows) {
         undo(rt, out);
-        return Saved {
-            out: false,
-            error: second,
-        };
+        return Err(Unsaved::Table(e));
     }
-    take_names(rt, out, page, table, rows)
-}
-
-fn take_names(rt: &impl Files, out: &[u8], page: &[u8], table: &[u8], rows: &[u8]) -> Saved {
-    let first = finish(rt, out, page);
-    if first != 0 {
+    if let Err(e) = finish(rt, out, page) {
         undo(rt, table);
-        return Saved {
-            out: true,
-            error: first,
-        };
+        return Err(Unsaved::Out(e));
     }
-    Saved {
-        out: false,
-        error: finish(rt, table, rows),
-    }
+    finish(rt, table, rows).map_err(Unsaved::Table)
 }

@@ -1,13 +1,15 @@
 // A run, stage by stage: words, graph's text, protected list, work, what is written. Each stage ends in the next one. The
 // answer is the status.
-ghost use Rattle.std.specs.Prelude.{◌≤◌, ◌≡◌, false, eqb, length};
+ghost use Rattle.std.specs.Prelude.{◌≤◌, ◌≡◌, true, is_some, length, IfOk};
 ghost use Rattle.request.specs.Words.{words_of};
 ghost use Rattle.request.specs.Faults.{fault_of};
 
+use crate::files::Unsaved;
 use crate::{files, say};
 use cases::input::same_word;
-use desk::work::{Done, PROTECTED, status};
-use request::ids::Listed;
+use desk::work::{Done, Source, status};
+use kit::Refusal;
+use request::ask::Role;
 use request::{ask, ids};
 use scanning::Verdict;
 use std::io;
@@ -16,9 +18,6 @@ use std::rt::Files;
 const REFUSED: u64 = 1;
 
 const UNUSABLE: u64 = 2;
-
-// A protected list that could not be read.
-const UNREAD: u64 = 1;
 
 // How many events there is room for.
 const EVENTS: usize = 8192;
@@ -35,13 +34,13 @@ fn print_verdict(out: &impl Print, v: Verdict) -> io::Result<()> {
 
 // What goes to standard output: the graph, the table, the verdict, each where it is asked for there.
 fn print(words: &[u8], out: &impl Print, page: &[u8], table: &[u8], v: Verdict) -> io::Result<()> {
-    if ask::is_standard(ask::first(words, ask::OUT)) {
+    if ask::is_standard(ask::first(words, Role::Out)) {
         out.write_all(page)?;
     }
-    if same_word(ask::first(words, ask::TABLE), b"-") {
+    if same_word(ask::first(words, Role::Table), b"-") {
         out.write_all(table)?;
     }
-    if ask::count(words, ask::CHECK) == 0 {
+    if ask::count(words, Role::Check) == 0 {
         return Ok(());
     }
     print_verdict(out, v)
@@ -52,7 +51,7 @@ fn conclude(words: &[u8], err: &impl Print, d: Done) -> u64
     ensures { result ≤ 3 }
 {
     if d.stopped != 0 {
-        say::stopped(err, ask::first(words, ask::GRAPH), d.stopped);
+        say::stopped(err, ask::first(words, Role::Graph), d.stopped);
     }
     status(d)
 }
@@ -68,42 +67,31 @@ fn write(
 ) -> u64
     ensures { result ≤ 3 }
 {
-    let out_name = ask::first(words, ask::OUT);
-    let table_name = ask::first(words, ask::TABLE);
-    let saved = files::save(rt, out_name, page, table_name, table);
-    if saved.error != 0 {
-        if saved.out {
-            say::unwritable(err, out_name, saved.error);
-        } else {
-            say::unwritable(err, table_name, saved.error);
+    let out_name = ask::first(words, Role::Out);
+    let table_name = ask::first(words, Role::Table);
+    if let Err(unsaved) = files::save(rt, out_name, page, table_name, table) {
+        match unsaved {
+            Unsaved::Out(e) => say::unwritable(err, out_name, e),
+            Unsaved::Table(e) => say::unwritable(err, table_name, e),
         }
         return UNUSABLE;
     }
     if let Err(e) = print(words, out, page, table, d.verdict) {
-        say::unwritable(err, b"standard output", files::reason(e));
+        say::unwritable(err, b"standard output", e);
         return UNUSABLE;
     }
     conclude(words, err, d)
 }
 
-fn refuse(words: &[u8], err: &impl Print, source: u64, number: u64) -> u64
+fn refuse(words: &[u8], err: &impl Print, source: Source, number: u64) -> u64
     ensures { result ≤ 3 }
 {
-    if source == PROTECTED {
-        say::refused(err, ask::first(words, ask::IDS), source, number);
-    } else {
-        say::refused(err, ask::first(words, ask::GRAPH), source, number);
-    }
+    let role = match source {
+        Source::Protected => Role::Ids,
+        Source::Text | Source::Room => Role::Graph,
+    };
+    say::refused(err, ask::first(words, role), source, number);
     REFUSED
-}
-
-fn least(a: usize, b: usize) -> usize
-    ensures { result ≤ b }
-{
-    if a < b {
-        return a;
-    }
-    b
 }
 
 // The old graph's rooms are 01's limits of the program; the others are larger, so that a graph at them can be collapsed.
@@ -118,8 +106,8 @@ fn work(
 ) -> u64
     ensures { result ≤ 3 }
 {
-    let check = ask::count(words, ask::CHECK) != 0;
-    let events = 4 * least(most, EVENTS);
+    let check = ask::count(words, Role::Check) != 0;
+    let events = 4 * most.min(EVENTS);
     let mut old_nodes = [0u64; 4096];
     let mut letters = [0u8; 16384];
     let mut old_links = [0u64; 6144];
@@ -147,35 +135,31 @@ fn work(
         &mut page,
         &mut table,
     );
-    if d.number != 0 {
-        return refuse(words, err, d.source, d.number);
+    if let Some(source) = d.source {
+        return refuse(words, err, source, d.number);
     }
     let p = d.page;
     let t = d.table;
     write(rt, words, out, err, &page[..p], &table[..t], d)
 }
 
-// The protected list from its file; where that cannot be read, a line says so and the number is 1, which no list is refused for.
-fn read_ids(rt: &(impl Files + Input), name: &[u8], err: &impl Print, room: &mut [u64]) -> Listed
-    ensures { result.count ≤ length room.new }
+// Why there is no protected list: its file cannot be read, or what it says is refused.
+#[derive(Drop)]
+enum Unlisted {
+    Unread(io::Error),
+    Refused(Refusal),
+}
+
+// The protected list from its file.
+fn read_ids(rt: &(impl Files + Input), name: &[u8], room: &mut [u64]) -> Result<usize, Unlisted>
+    ensures { IfOk result (λ n. n ≤ length room.new) }
 {
     let mut bytes = [0u8; 65537];
-    let got = files::read(rt, name, &mut bytes);
-    if got.error != 0 {
-        say::unreadable(err, name, got.error);
-        return Listed {
-            number: UNREAD,
-            count: 0,
-        };
-    }
-    let n = got.len;
+    let n = files::read(rt, name, &mut bytes).map_err(Unlisted::Unread)?;
     if 65536 < n {
-        return Listed {
-            number: 7,
-            count: 0,
-        };
+        return Err(Unlisted::Refused(Refusal::Room));
     }
-    ids::list(&bytes[..n], room)
+    ids::list(&bytes[..n], room).map_err(Unlisted::Refused)
 }
 
 fn with_ids(
@@ -189,19 +173,18 @@ fn with_ids(
     ensures { result ≤ 3 }
 {
     let mut room = [0u64; 4096];
-    let name = ask::first(words, ask::IDS);
-    if name.len() == 0 {
+    let name = ask::first(words, Role::Ids);
+    if name.is_empty() {
         return work(rt, words, text, &room[..0], out, err, most);
     }
-    let listed = read_ids(rt, name, err, &mut room);
-    if listed.number == UNREAD {
-        return UNUSABLE;
+    match read_ids(rt, name, &mut room) {
+        Ok(n) => work(rt, words, text, &room[..n], out, err, most),
+        Err(Unlisted::Unread(e)) => {
+            say::unreadable(err, name, e);
+            UNUSABLE
+        }
+        Err(Unlisted::Refused(r)) => refuse(words, err, Source::Protected, r.number()),
     }
-    if listed.number != 0 {
-        return refuse(words, err, PROTECTED, listed.number);
-    }
-    let n = listed.count;
-    work(rt, words, text, &room[..n], out, err, most)
 }
 
 // A byte more than the program takes is read, so that a longer text is seen.
@@ -215,14 +198,14 @@ fn with_text(
     ensures { result ≤ 3 }
 {
     let mut bytes = [0u8; 65537];
-    let name = ask::first(words, ask::GRAPH);
-    let got = files::read(rt, name, &mut bytes);
-    if got.error != 0 {
-        say::unreadable(err, name, got.error);
-        return UNUSABLE;
+    let name = ask::first(words, Role::Graph);
+    match files::read(rt, name, &mut bytes) {
+        Ok(n) => with_ids(rt, words, &bytes[..n], out, err, most),
+        Err(e) => {
+            say::unreadable(err, name, e);
+            UNUSABLE
+        }
     }
-    let n = got.len;
-    with_ids(rt, words, &bytes[..n], out, err, most)
 }
 
 // `most` is how many events the driver has room for. Words with a fault end in 2, whatever the files hold.
@@ -233,10 +216,9 @@ pub fn run(
     err: &impl Print,
     most: usize,
 ) -> u64
-    ensures { (result ≤ 3) × ((eqb (fault_of (words_of words.now)) 0 ≡ false) → result ≡ 2) }
+    ensures { (result ≤ 3) × ((is_some (fault_of (words_of words.now)) ≡ true) → result ≡ 2) }
 {
-    let fault = ask::fault(words);
-    if fault != ask::FINE {
+    if let Some(fault) = ask::first_fault(words) {
         say::faulty(err, words, fault);
         return UNUSABLE;
     }

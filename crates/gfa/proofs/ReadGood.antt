@@ -12,7 +12,8 @@ use Rattle.kit.proofs.Bools.{and_both, and_true_l, and_true_r}
 use Rattle.kit.proofs.Laws.{decode-encode, then-length}
 use Rattle.kit.proofs.Members.{of_keep}
 use Rattle.handle.specs.Handle.{id_of}
-use Rattle.store.specs.Graph.{Node, Graph, node_layout, link_layout, graph_of}
+use Rattle.store.specs.Graph.{Graph, node_layout, link_layout, graph_of}
+use Rattle.store.specs.declared.Node.{Node}
 use Rattle.store.specs.Views.{stored, unmarked_node}
 use Rattle.formed.specs.WellFormed.{good_node, good_graph, ids_once, unmarked, well_formed}
 use Rattle.formed.proofs.Says.{room_says, says_room, says_graph}

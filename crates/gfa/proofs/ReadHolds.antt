@@ -16,7 +16,9 @@ use Rattle.kit.proofs.Meaning.{all_mem, any_some}
 use Rattle.kit.proofs.Members.{of_keep}
 use Rattle.handle.specs.Handle.{pack, id_of}
 use Rattle.handle.proofs.Handles.{id-pack, dir_pack}
-use Rattle.store.specs.Graph.{Node, Link, Graph}
+use Rattle.store.specs.Graph.{Graph}
+use Rattle.store.specs.declared.Node.{Node}
+use Rattle.store.specs.declared.Link.{Link}
 use Rattle.store.specs.Views.{named, stored, joins, span}
 use Rattle.spelling.specs.Spelling.{all_stored}
 use Rattle.text.specs.Pieces.{lines_of, field, is_line}

@@ -15,7 +15,9 @@ use Rattle.handle.specs.Handle.{id_of}
 use Rattle.handle.specs.Edge.{written, turned, same_ends}
 use Rattle.handle.proofs.Handles.{id-flip}
 use Rattle.handle.proofs.Edges.{same_ends_lem, same-written, written-written, written_either}
-use Rattle.store.specs.Graph.{Node, Link, Graph, link, ends}
+use Rattle.store.specs.Graph.{Graph, link, ends}
+use Rattle.store.specs.declared.Node.{Node}
+use Rattle.store.specs.declared.Link.{Link}
 use Rattle.store.specs.Views.{stored, joins, linked}
 use Rattle.formed.specs.WellFormed.{good_link, links_once, unmarked_link}
 use Rattle.formed.proofs.Says.{says_link}

@@ -12,7 +12,8 @@ use Rattle.kit.specs.Loops.{all, distinct}
 use Rattle.kit.proofs.Bools.{and_both, and_true_l, and_true_r}
 use Rattle.kit.proofs.Meaning.{all_append, all_mem, all_of}
 use Rattle.letters.specs.Sequences.{all_letters}
-use Rattle.store.specs.Graph.{Node, Graph, node}
+use Rattle.store.specs.Graph.{Graph, node}
+use Rattle.store.specs.declared.Node.{Node}
 use Rattle.store.specs.Views.{span, unmarked_node}
 use Rattle.formed.specs.WellFormed.{good_node, ids_once}
 use Rattle.formed.proofs.Says.{node_says, says_node}

@@ -12,7 +12,8 @@ use Rattle.kit.specs.Loops.{all, any, distinct}
 use Rattle.kit.proofs.Bools.{never, or_neither, and_both, and_true_l, and_true_r, eqb_sym}
 use Rattle.kit.proofs.Lists.{distinct_snoc}
 use Rattle.kit.proofs.Meaning.{distinct-first, distinct-rest, none_mem}
-use Rattle.store.specs.Graph.{Node, Graph}
+use Rattle.store.specs.Graph.{Graph}
+use Rattle.store.specs.declared.Node.{Node}
 use Rattle.store.specs.Views.{stored}
 use Rattle.text.specs.Pieces.{is_line}
 use Rattle.text.specs.Fields.{line_number}

@@ -10,7 +10,8 @@ use borrow.Author.Tests.{eqb-true}
 use lib.Dec.{eqb}
 use Rattle.kit.specs.Loops.{all}
 use Rattle.kit.proofs.Meaning.{all_mem}
-use Rattle.store.specs.Graph.{Node, Graph}
+use Rattle.store.specs.Graph.{Graph}
+use Rattle.store.specs.declared.Node.{Node}
 use Rattle.formed.proofs.Says.{says_room}
 use Rattle.spelling.specs.Spelling.{all_stored}
 use Rattle.text.specs.Pieces.{lines_of}

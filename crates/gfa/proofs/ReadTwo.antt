@@ -6,7 +6,8 @@ use mathlib.Core.Bool.{Bool, true, false, cond, not}
 use mathlib.Core.List.{List, [], ◌∷◌}
 use Rattle.kit.specs.Loops.{all}
 use Rattle.kit.proofs.Bools.{never, and_both, and_true_l, and_true_r}
-use Rattle.store.specs.Graph.{Node, Graph}
+use Rattle.store.specs.Graph.{Graph}
+use Rattle.store.specs.declared.Node.{Node}
 use Rattle.spelling.specs.Spelling.{all_stored}
 use Rattle.text.specs.Pieces.{is_line}
 use Rattle.text.specs.Fields.{handles_said}

@@ -6,7 +6,8 @@ use mathlib.Core.Logic.{◌⊎◌, inl, inr, ⊎_elim}
 use mathlib.Core.List.Memᴰ
 use mathlib.Core.List.{List, [], map, Memᴰ}
 use Rattle.handle.specs.declared.Handle.{Handle}
-use Rattle.store.specs.Graph.{Link, Graph}
+use Rattle.store.specs.Graph.{Graph}
+use Rattle.store.specs.declared.Link.{Link}
 use Rattle.formed.specs.WellFormed.{good_graph}
 use Rattle.text.specs.Pieces.{lines_of}
 use Rattle.writing.specs.GraphText.{live_segments, live_links, graph_text}

@@ -14,7 +14,8 @@ use Rattle.handle.specs.declared.Handle.{Handle}
 use Rattle.handle.specs.declared.Edge.{Edge}
 use Rattle.handle.specs.Handle.{id_of, same_handle}
 use Rattle.handle.proofs.Handles.{same_id_lem}
-use Rattle.store.specs.Graph.{Link, Graph}
+use Rattle.store.specs.Graph.{Graph}
+use Rattle.store.specs.declared.Link.{Link}
 use Rattle.store.specs.Views.{spell}
 use Rattle.formed.specs.WellFormed.{good_graph}
 use Rattle.sides.proofs.Rising.{Sorted, sorted_nil, sorted_cons}

@@ -11,7 +11,8 @@ use Rattle.kit.proofs.Meaning.{all_of, none_of, keep_append, all_map, any-map}
 use Rattle.handle.specs.declared.Handle.{Handle}
 use Rattle.handle.specs.Handle.{max_id, id_of, pack}
 use Rattle.handle.proofs.Handles.{id-pack}
-use Rattle.store.specs.Graph.{Link, Graph}
+use Rattle.store.specs.Graph.{Graph}
+use Rattle.store.specs.declared.Link.{Link}
 use Rattle.store.specs.Views.{spell}
 use Rattle.formed.specs.WellFormed.{good_graph}
 use Rattle.text.specs.Bytes.{bytes}

@@ -19,7 +19,9 @@ use Rattle.handle.specs.declared.Handle.{Handle}
 use Rattle.handle.specs.Handle.{max_id, id_of, dir_of, pack}
 use Rattle.handle.specs.Edge.{written, same_ends}
 use Rattle.handle.proofs.Handles.{id-pack, dir_pack}
-use Rattle.store.specs.Graph.{Node, Link, Graph, node, ends}
+use Rattle.store.specs.Graph.{Graph, node, ends}
+use Rattle.store.specs.declared.Node.{Node}
+use Rattle.store.specs.declared.Link.{Link}
 use Rattle.store.specs.Views.{named, stored, node_named, unmarked_node, live_here, live_node, span, spell, live_link}
 use Rattle.formed.specs.WellFormed.{good_node, good_link, good_graph}
 use Rattle.formed.proofs.Says.{GoodNode, node_says, link_says, graph_says}

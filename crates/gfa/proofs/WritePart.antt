@@ -17,7 +17,9 @@ use Rattle.letters.specs.Sequences.{oriented}
 use Rattle.handle.specs.declared.Handle.{Handle}
 use Rattle.handle.specs.Handle.{id_of, dir_of, pack}
 use Rattle.handle.proofs.Handles.{id-pack, pack_unpack, same_id_lem}
-use Rattle.store.specs.Graph.{Node, Link, Graph, node, link, ends}
+use Rattle.store.specs.Graph.{Graph, node, link, ends}
+use Rattle.store.specs.declared.Node.{Node}
+use Rattle.store.specs.declared.Link.{Link}
 use Rattle.store.specs.Views.{named, stored, node_named, unmarked_node, live_here, live_node, span, spell, live_link}
 use Rattle.formed.specs.WellFormed.{unmarked_link, good_graph}
 use Rattle.sides.specs.Sides.{rising}

@@ -19,7 +19,9 @@ use Rattle.handle.specs.Handle.{id_of, dir_of, pack}
 use Rattle.handle.specs.Edge.{edge, written, edge_before}
 use Rattle.handle.proofs.Handles.{pack_unpack, dir_small}
 use Rattle.handle.proofs.Edges.{written_same, before_irrefl}
-use Rattle.store.specs.Graph.{Node, Link, Graph, node, ends}
+use Rattle.store.specs.Graph.{Graph, node, ends}
+use Rattle.store.specs.declared.Node.{Node}
+use Rattle.store.specs.declared.Link.{Link}
 use Rattle.store.specs.Views.{spell, joins, linked}
 use Rattle.formed.specs.WellFormed.{good_graph}
 use Rattle.text.specs.Pieces.{field}

@@ -5,7 +5,9 @@ use Rattle.kit.specs.Decimal.{decimal}
 use Rattle.handle.specs.declared.Handle.{Handle}
 use Rattle.handle.specs.Handle.{id_of, dir_of}
 use Rattle.handle.specs.Edge.{edge}
-use Rattle.store.specs.Graph.{Node, Link, Graph, link, ends}
+use Rattle.store.specs.Graph.{Graph, link, ends}
+use Rattle.store.specs.declared.Node.{Node}
+use Rattle.store.specs.declared.Link.{Link}
 use Rattle.store.specs.Views.{joins, span, spell}
 use Rattle.formed.specs.WellFormed.{links_once, unmarked}
 use Rattle.writing.specs.GraphText.{live_segments, live_links}

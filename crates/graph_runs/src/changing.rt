@@ -7,9 +7,11 @@ use driver::Driven;
 use events::Used;
 use store::Counts;
 
-pub const COLLAPSE: u64 = 0;
-
-pub const COLLAPSE_ALL: u64 = 1;
+#[derive(Clone, Copy, PartialEq, Eq)]
+pub enum Operation {
+    Collapse,
+    CollapseAll,
+}
 
 // The graph after the call, whose letters nothing changes, and the list.
 fn put_arrays(
@@ -138,7 +140,7 @@ fn collapse_all(
 
 pub fn run(
     rt: &impl Print,
-    operation: u64,
+    operation: Operation,
     given: &[u64],
     shape: &[u8],
     text: &mut [u8],
@@ -148,8 +150,7 @@ pub fn run(
     requires { Room at out.old }
     ensures { Room result out.new }
 {
-    let fault = faults::fault(given, shape);
-    if fault != faults::FINE {
+    if let Some(fault) = faults::first_fault(given, shape) {
         return output::put_fault(rt, out, at, fault);
     }
     let mut first = [0u64; 16384];
@@ -161,12 +162,12 @@ pub fn run(
     let links = lend::numbers(given, shape, 2, &mut second);
     let rules = lend::numbers(given, shape, 6, &mut third);
     let steps = lend::numbers(given, shape, 7, &mut fourth);
-    if operation == COLLAPSE {
-        return collapse(
+    match operation {
+        Operation::Collapse => collapse(
             rt, given, shape, nodes, letters, links, rules, steps, out, at,
-        );
+        ),
+        Operation::CollapseAll => collapse_all(
+            rt, given, shape, nodes, letters, links, rules, steps, out, at,
+        ),
     }
-    collapse_all(
-        rt, given, shape, nodes, letters, links, rules, steps, out, at,
-    )
 }

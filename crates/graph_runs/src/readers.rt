@@ -4,13 +4,13 @@ ghost use Rattle.cases.specs.Answers.{Room};
 use cases::{faults, lend, output, parts};
 use scanning::Verdict;
 
-pub const LIVE_LETTERS: u64 = 0;
-
-pub const GET_SHARED_PREFIX: u64 = 1;
-
-pub const SPELL_WALK: u64 = 2;
-
-pub const CHECK_TRANSFORM: u64 = 3;
+#[derive(Clone, Copy, PartialEq, Eq)]
+pub enum Operation {
+    LiveLetters,
+    GetSharedPrefix,
+    SpellWalk,
+    CheckTransform,
+}
 
 fn live_letters(
     rt: &impl Print,
@@ -125,7 +125,7 @@ fn check_transform(
 // Item 7, where there is one, is the room, or a second graph's letters.
 pub fn run(
     rt: &impl Print,
-    operation: u64,
+    operation: Operation,
     given: &[u64],
     shape: &[u8],
     text: &mut [u8],
@@ -135,21 +135,16 @@ pub fn run(
     requires { Room at out.old }
     ensures { Room result out.new }
 {
-    let fault = faults::fault(given, shape);
-    if fault != faults::FINE {
+    if let Some(fault) = faults::first_fault(given, shape) {
         return output::put_fault(rt, out, at, fault);
     }
     let mut space = [0u8; 131072];
     let letters = lend::bytes(given, shape, 1, text);
     let room = lend::bytes(given, shape, 7, &mut space);
-    if operation == LIVE_LETTERS {
-        return live_letters(rt, given, shape, letters, out, at);
+    match operation {
+        Operation::LiveLetters => live_letters(rt, given, shape, letters, out, at),
+        Operation::GetSharedPrefix => get_shared_prefix(rt, given, shape, letters, room, out, at),
+        Operation::SpellWalk => spell_walk(rt, given, shape, letters, room, out, at),
+        Operation::CheckTransform => check_transform(rt, given, shape, letters, room, out, at),
     }
-    if operation == GET_SHARED_PREFIX {
-        return get_shared_prefix(rt, given, shape, letters, room, out, at);
-    }
-    if operation == SPELL_WALK {
-        return spell_walk(rt, given, shape, letters, room, out, at);
-    }
-    check_transform(rt, given, shape, letters, room, out, at)
 }

@@ -4,11 +4,12 @@ ghost use Rattle.cases.specs.Answers.{Room};
 use cases::{faults, lend, output, parts};
 use gfaffix::transform_walk::Rewritten;
 
-pub const ENUMERATE_BRANCH: u64 = 0;
-
-pub const TRANSFORM_WALK: u64 = 1;
-
-pub const EXPAND: u64 = 2;
+#[derive(Clone, Copy, PartialEq, Eq)]
+pub enum Operation {
+    EnumerateBranch,
+    TransformWalk,
+    Expand,
+}
 
 fn enumerate_branch(
     rt: &impl Print,
@@ -98,7 +99,7 @@ fn expand(
 
 pub fn run(
     rt: &impl Print,
-    operation: u64,
+    operation: Operation,
     given: &[u64],
     shape: &[u8],
     text: &mut [u8],
@@ -108,23 +109,27 @@ pub fn run(
     requires { Room at out.old }
     ensures { Room result out.new }
 {
-    let fault = faults::fault(given, shape);
-    if fault != faults::FINE {
+    if let Some(fault) = faults::first_fault(given, shape) {
         return output::put_fault(rt, out, at, fault);
     }
     let mut first = [0u64; 131072];
     let mut second = [0u64; 65536];
-    if operation == EXPAND {
-        let rules = lend::numbers(given, shape, 4, &mut first);
-        let steps = lend::numbers(given, shape, 5, &mut second);
-        return expand(rt, given, shape, rules, steps, out, at);
+    match operation {
+        Operation::EnumerateBranch => {
+            let letters = lend::bytes(given, shape, 1, text);
+            let members = lend::numbers(given, shape, 7, &mut first);
+            let ends = lend::numbers(given, shape, 8, &mut second);
+            enumerate_branch(rt, given, shape, letters, members, ends, out, at)
+        }
+        Operation::TransformWalk => {
+            let letters = lend::bytes(given, shape, 1, text);
+            let room = lend::numbers(given, shape, 11, &mut first);
+            transform_walk(rt, given, shape, letters, room, out, at)
+        }
+        Operation::Expand => {
+            let rules = lend::numbers(given, shape, 4, &mut first);
+            let steps = lend::numbers(given, shape, 5, &mut second);
+            expand(rt, given, shape, rules, steps, out, at)
+        }
     }
-    let letters = lend::bytes(given, shape, 1, text);
-    if operation == TRANSFORM_WALK {
-        let room = lend::numbers(given, shape, 11, &mut first);
-        return transform_walk(rt, given, shape, letters, room, out, at);
-    }
-    let members = lend::numbers(given, shape, 7, &mut first);
-    let ends = lend::numbers(given, shape, 8, &mut second);
-    enumerate_branch(rt, given, shape, letters, members, ends, out, at)
 }

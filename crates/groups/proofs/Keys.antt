@@ -9,7 +9,7 @@ use lib.Dec.{eqb}
 use lib.ListN.{length, take, drop, get_or, length-take}
 use lib.Seq.{take-take}
 use Rattle.kit.specs.Loops.{all}
-use Rattle.kit.specs.declared.Found.TheVariants.{At, Nothing}
+use Rattle.std.specs.Prelude.{Some, None}
 use Rattle.kit.proofs.Bools.{and_true_l, and_true_r, and_both}
 use Rattle.kit.proofs.Laws.{length-decode}
 use Rattle.kit.proofs.Meaning.{all-at}
@@ -18,7 +18,8 @@ use Rattle.letters.specs.Sequences.{letter_at}
 use Rattle.handle.specs.declared.Handle.{Handle}
 use Rattle.handle.specs.Handle.{id_of, dir_of}
 use Rattle.store.specs.declared.Counts.{Counts}
-use Rattle.store.specs.Graph.{Node, Graph, node_layout, nodes_of, graph_of}
+use Rattle.store.specs.Graph.{Graph, node_layout, nodes_of, graph_of}
+use Rattle.store.specs.declared.Node.{Node}
 use Rattle.store.specs.Views.{find_node, letter_of, span}
 use Rattle.store.proofs.Fields.{node_at, node_is}
 use Rattle.store.proofs.Lookups.{node-found, no_node}
@@ -43,7 +44,7 @@ module _ (nodes letters : List ℕ) (c : Counts) (u : Handle) where
     pub some_letter : 0 < get_or nodes (4 * i + 2) 0
     pub first : letter_at (take (get_or nodes (4 * i + 2) 0) (drop (get_or nodes (4 * i + 1) 0) letters)) (dir_of u) 0 ≡ letter_of (graph_of nodes letters [] c) u 0
 
-  pub reads_first : (i : ℕ) → c.letters ≤ length letters → all (good_node (take c.letters letters)) (nodes_of c.nodes nodes) ≡ true → find_node (id_of u) (nodes_of c.nodes nodes) ≡ At i → Reads i
+  pub reads_first : (i : ℕ) → c.letters ≤ length letters → all (good_node (take c.letters letters)) (nodes_of c.nodes nodes) ≡ true → find_node (id_of u) (nodes_of c.nodes nodes) ≡ Some i → Reads i
   reads_first i room good e =
       let f = node-found c.nodes nodes (id_of u) i e in
       let used = take c.letters letters in
@@ -65,7 +66,7 @@ module _ (nodes letters : List ℕ) (c : Counts) (u : Handle) where
   no_letter true = refl
   no_letter false = refl
 
-  pub reads_none : find_node (id_of u) (nodes_of c.nodes nodes) ≡ Nothing → 0 ≡ letter_of (graph_of nodes letters [] c) u 0
+  pub reads_none : find_node (id_of u) (nodes_of c.nodes nodes) ≡ None → 0 ≡ letter_of (graph_of nodes letters [] c) u 0
   reads_none e = rw (no_node (id_of u) (nodes_of c.nodes nodes) e) (no_letter (eqb (dir_of u) 0))
 
 -- keys are alike as letters and left sets are

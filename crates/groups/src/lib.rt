@@ -13,8 +13,7 @@ ghost use Rattle.groups.specs.Groups.{same_key, is_reverse, arranged, groups_of,
 ghost use Rattle.groups.specs.Search.{of_key, heads_of, first_met};
 
 use handle::Handle;
-use kit::Found;
-use store::Counts;
+use store::{Counts, Node};
 
 // The first letter that an oriented node reads; 0 where no such node is stored.
 fn first_letter(nodes: &[u64], text: &[u8], c: Counts, u: Handle) -> u8
@@ -22,12 +21,11 @@ fn first_letter(nodes: &[u64], text: &[u8], c: Counts, u: Handle) -> u8
     requires nodes_value { all (good_node (take c.letters text.now)) (nodes_of c.nodes nodes.now) ≡ true }
     ensures { result ≡ letter_of (graph_of nodes.now text.now [] c) u 0 }
 {
-    let Found::At(i) = store::find_node(nodes, c.nodes, u.id()) else {
+    let Some(i) = store::find_node(nodes, c.nodes, u.id()) else {
         return 0;
     };
-    let start = nodes[4 * i + 1] as usize;
-    let len = nodes[4 * i + 2] as usize;
-    store::read_letter(text, start, len, u.direction(), 0)
+    let r = Node::at(nodes, i);
+    store::read_letter(text, r.start as usize, r.len as usize, u.direction(), 0)
 }
 
 // Whether two oriented nodes belong to one group.

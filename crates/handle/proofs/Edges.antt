@@ -7,6 +7,10 @@ use native.Mathlib.Omega.{arith}
 use borrow.Author.Tests.{eq-eqb, lt-ltb, ltb-true, eqb-true}
 use lib.Dec.{eqb, ltb, leb}
 use Rattle.kit.proofs.Bools.{tests, never, and_true_l, and_true_r, and_both, or_left, or_right, or_cases, same_test}
+use Rattle.std.specs.Prelude.{Some}
+use Rattle.std.specs.Ordering.{is_lt, is_some_and, partial_lt, partial_ordering_then}
+use Rattle.std.specs.declared.cmp.Ordering.TheVariants.{Less, Equal, Greater}
+use Rattle.handle.specs.contracts.EdgePartialOrd.TheImpl as edge_order
 use Rattle.handle.specs.declared.Edge.{Edge}
 use Rattle.handle.specs.Handle.{id_of, dir_of, flip, same_handle, pack}
 use Rattle.handle.specs.Edge.{edge, turned, both_forward, written, same_ends, same_link, edge_before}
@@ -211,3 +215,18 @@ before-total e f s t =
     (λ p. no (record { first = omega arith; second = λ x. absurd (omega arith) }))
     (λ p. on (record { first = omega arith; second = λ x. absurd (omega arith) })))
     (order e.from.packed f.from.packed)
+
+-- the derived order is the order of written links
+derived_order : (x y z w : Bool) → is_some_and is_lt (partial_ordering_then (Some (cond x Less (cond y Equal Greater))) (Some (cond z Less (cond w Equal Greater)))) ≡ (x || (y && z))
+derived_order true y z w = refl
+derived_order false true true w = refl
+derived_order false true false true = refl
+derived_order false true false false = refl
+derived_order false false z w = refl
+
+pub lt_before : (e f : Edge) → partial_lt (edge_order.partial_cmp-value).it e f ≡ edge_before e f
+unfolding edge_before
+lt_before e f =
+    let t = eqb e.from.packed f.from.packed in
+    derived_order (ltb e.from.packed f.from.packed) t (ltb e.to.packed f.to.packed) (eqb e.to.packed f.to.packed)
+    ∙ sym (ap₂ (λ (x y : Bool). x || (t && y)) (before_packed e.from f.from) (before_packed e.to f.to))

@@ -1,11 +1,13 @@
 -- The laws of oriented nodes.
 use Prim.Native.Nat.{ℕ, ◌+◌, ◌-◌, ◌*◌, ◌/◌, ◌%◌, ◌≤◌}
 use mathlib.Core.Path.{◌≡◌, refl, sym, ap, ◌∙◌}
-use mathlib.Core.Bool.{Bool, true, false, ◌&&◌, ◌||◌}
+use mathlib.Core.Bool.{Bool, true, false, cond, ◌&&◌, ◌||◌}
 use native.Mathlib.Omega.{arith}
 use borrow.Author.Tests.{lt-ltb, le-ltb}
 use lib.Dec.{eqb, ltb}
 use Rattle.kit.proofs.Bools.{tests}
+use Rattle.std.specs.Ordering.{is_lt, nat_cmp}
+use Rattle.std.specs.declared.cmp.Ordering.TheVariants.{Less, Equal, Greater}
 use Rattle.handle.specs.declared.Handle.{Handle}
 use Rattle.handle.specs.Handle.{pack, id_of, dir_of, flip, is_id, is_handle, same_handle, before}
 
@@ -85,3 +87,12 @@ by_id u v false true e f = by_dir (ltb (dir_of u) (dir_of v)) refl
 pub before_packed : (u v : Handle) → before u v ≡ ltb u.packed v.packed
 unfolding before
 before_packed u v = by_id u v (ltb (id_of u) (id_of v)) (eqb (id_of u) (id_of v)) refl refl
+
+-- the derived order of two numbers
+pub derived_lt : (a b : ℕ) → is_lt (nat_cmp a b) ≡ ltb a b
+derived_lt a b = by (ltb a b) (eqb a b)
+  where
+    by : (x y : Bool) → is_lt (cond x Less (cond y Equal Greater)) ≡ x
+    by true y = refl
+    by false true = refl
+    by false false = refl

@@ -5,12 +5,14 @@ ghost use Rattle.std.specs.Prelude.{◌≡◌, ◌≤◌};
 ghost use Rattle.handle.specs.Handle.{max_id, pack, id_of, dir_of, flip, is_handle, same_handle, before};
 ghost use Rattle.handle.specs.Edge.{edge, turned, both_forward, written, same_ends, same_link, edge_before};
 
-#[derive(Clone, Copy)]
+// The order of packed numbers is the order of ids, forward before reverse.
+#[derive(Clone, Copy, PartialEq, Eq, PartialOrd, Ord)]
 pub struct Handle {
     pub packed: u64,
 }
 
 impl Handle {
+    // 01 names the form: the type's own constants for the two directions.
     pub const FORWARD: u64 = 0;
 
     pub const REVERSE: u64 = 1;
@@ -68,21 +70,21 @@ impl Handle {
         1 <= id && id <= Self::MAX_ID
     }
 
+    // What `==` and `<` say, in the words of the definitions.
     pub fn same(self, other: Handle) -> bool
         ensures { result ≡ same_handle self other }
     {
-        self.packed == other.packed
+        self == other
     }
 
-    // The order of packed numbers is the order of ids, forward before reverse.
     pub fn before(self, other: Handle) -> bool
         ensures { result ≡ before self other }
     {
-        self.packed < other.packed
+        self < other
     }
 }
 
-#[derive(Clone, Copy)]
+#[derive(Clone, Copy, PartialEq, Eq, PartialOrd, Ord)]
 pub struct Edge {
     pub from: Handle,
     pub to: Handle,
@@ -127,33 +129,24 @@ impl Edge {
         t
     }
 
+    // What `==` says, in the words of the definitions.
     pub fn same(self, other: Edge) -> bool
         ensures { result ≡ same_ends self other }
     {
-        let u = self.from;
-        let v = self.to;
-        u.same(other.from) && v.same(other.to)
+        self == other
     }
 
     // Whether the two are one link, in either form.
     pub fn same_link(self, other: Edge) -> bool
         ensures { result ≡ same_link self other }
     {
-        if self.same(other) {
-            return true;
-        }
-        let t = self.turned();
-        t.same(other)
+        self == other || self.turned() == other
     }
 
-    pub fn before(self, other: Edge) -> bool
-        ensures { result ≡ edge_before self other }
+    // 01's order of written links is the derived one: by the first end, then by the second.
+    pub fn before(self, later: Edge) -> bool
+        ensures { result ≡ edge_before self later }
     {
-        let u = self.from;
-        let v = self.to;
-        if u.before(other.from) {
-            return true;
-        }
-        u.same(other.from) && v.before(other.to)
+        self < later
     }
 }

@@ -17,7 +17,8 @@ use Rattle.handle.specs.Handle.{id_of, dir_of, flip}
 use Rattle.handle.specs.Edge.{same_ends, edge_before}
 use Rattle.handle.proofs.Handles.{flip-flip}
 use Rattle.store.specs.declared.Counts.{Counts}
-use Rattle.store.specs.Graph.{Link, Graph, ends, link_layout, links_of, graph_of}
+use Rattle.store.specs.Graph.{Graph, ends, link_layout, links_of, graph_of}
+use Rattle.store.specs.declared.Link.{Link}
 use Rattle.store.specs.Order.{written_order}
 use Rattle.store.specs.Views.{len_of}
 use Rattle.store.proofs.Fields.{link_at, left-link}
@@ -25,7 +26,8 @@ use Rattle.store.proofs.Order.{Written, written_nil, written_cons, order_written
 use Rattle.formed.specs.WellFormed.{links_once}
 use Rattle.groups.specs.Groups.{numbers}
 use Rattle.events.specs.declared.Used.{Used}
-use Rattle.events.specs.Events.{Rule, Rules, rule, keyed, rules_of, steps_of, list_of}
+use Rattle.events.specs.Events.{Rules, rule, keyed, rules_of, steps_of, list_of}
+use Rattle.events.specs.declared.Rule.{Rule}
 use Rattle.events.specs.WellFormed.{table_formed}
 use Rattle.events.proofs.Says.{table-room}
 use Rattle.spelling.specs.Spelling.{turn_walk}

@@ -20,7 +20,8 @@ use Rattle.handle.specs.declared.Handle.{Handle}
 use Rattle.handle.specs.Handle.{max_id, id_of, pack, same_handle, before}
 use Rattle.handle.proofs.Handles.{same_handle_lem, before_packed, id-pack}
 use Rattle.store.specs.declared.Counts.{Counts}
-use Rattle.store.specs.Graph.{Node, Graph, node_layout, nodes_of}
+use Rattle.store.specs.Graph.{Graph, node_layout, nodes_of}
+use Rattle.store.specs.declared.Node.{Node}
 use Rattle.store.specs.Views.{node_named, len_of, live_node, spell}
 use Rattle.store.proofs.Fields.{node_at, left-node, node_is}
 use Rattle.formed.specs.WellFormed.{good_node}

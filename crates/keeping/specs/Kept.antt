@@ -4,7 +4,8 @@ use Rattle.letters.specs.Sequences.{same_spelling}
 use Rattle.handle.specs.declared.Handle.{Handle}
 use Rattle.handle.specs.Handle.{id_of, pack}
 use Rattle.handle.specs.Edge.{edge}
-use Rattle.store.specs.Graph.{Link, Graph, handle}
+use Rattle.store.specs.Graph.{Graph, handle}
+use Rattle.store.specs.declared.Link.{Link}
 use Rattle.store.specs.Views.{len_of, live_node, spell, live_linked}
 use Rattle.sides.specs.Sides.{rising}
 use Rattle.events.specs.Events.{Rules}

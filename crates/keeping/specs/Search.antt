@@ -3,7 +3,8 @@ use Rattle.std.specs.Prelude.{ℕ, ◌+◌, ◌*◌, not, List, get_or}
 use Rattle.kit.specs.Loops.{keep}
 use Rattle.handle.specs.declared.Edge.{Edge}
 use Rattle.handle.specs.Edge.{edge}
-use Rattle.store.specs.Graph.{Link, Graph, handle}
+use Rattle.store.specs.Graph.{Graph, handle}
+use Rattle.store.specs.declared.Link.{Link}
 use Rattle.store.specs.Order.{written_order}
 use Rattle.events.specs.Events.{Rules}
 use Rattle.keeping.specs.Kept.{link_kept}

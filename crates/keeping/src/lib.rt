@@ -17,11 +17,10 @@ ghost use Rattle.keeping.specs.Kept.{node_kept, old_nodes, nodes_fault, first_of
 ghost use Rattle.keeping.specs.Search.{lost_links, ends_at};
 
 use affix::Reading;
-use events::Used;
+use events::{Rule, Used};
 use handle::{Edge, Handle};
-use kit::Found;
 use scanning::Verdict;
-use store::Counts;
+use store::{Counts, Link, Node};
 
 fn same_letters(oldtext: &[u8], r: Reading, text: &[u8], s: Reading) -> bool
     requires { (r.start + r.len ≤ length oldtext.now) × (s.start + s.len ≤ length text.now) }
@@ -31,12 +30,10 @@ fn same_letters(oldtext: &[u8], r: Reading, text: &[u8], s: Reading) -> bool
     if s.len != len {
         return false;
     }
-    let mut i: usize = 0;
-    while i < len {
+    for i in 0..len {
         if !letters::same_letter(affix::letter(oldtext, r, i), affix::letter(text, s, i)) {
             return false;
         }
-        i += 1;
     }
     true
 }
@@ -45,10 +42,7 @@ fn has_rule(rules: &[u64], used: usize, id: u64, len: u64) -> bool
     requires { 4 * used ≤ length rules.now }
     ensures { result ≡ ruled id len (rules_of used rules.now) }
 {
-    let Found::At(_) = events::find_rule(rules, used, id, len) else {
-        return false;
-    };
-    true
+    events::find_rule(rules, used, id, len).is_some()
 }
 
 // No link and no step is read for 26, so the contracts name none.
@@ -115,10 +109,8 @@ pub fn nodes_fault(
         first: 0,
         second: 0,
     };
-    let mut i = c.nodes;
-    while 0 < i {
-        i -= 1;
-        let id = oldnodes[4 * i];
+    for i in (0..c.nodes).rev() {
+        let id = Node::at(oldnodes, i).id;
         if !node_kept(
             oldnodes,
             oldtext,
@@ -143,11 +135,12 @@ fn first_step(oldnodes: &[u64], c: Counts, rules: &[u64], steps: &[u64], u: Used
 {
     let id = h.id();
     let len = store::node_len(oldnodes, c.nodes, id);
-    let Found::At(i) = events::find_rule(rules, u.rules, id, len) else {
+    let Some(i) = events::find_rule(rules, u.rules, id, len) else {
         return h.packed;
     };
-    let first = rules[4 * i + 2] as usize;
-    let count = rules[4 * i + 3] as usize;
+    let r = Rule::at(rules, i);
+    let first = r.first as usize;
+    let count = r.steps as usize;
     let direction = h.direction();
     rewriting::image_step(steps, u.steps, first, count, direction, 0)
 }
@@ -176,17 +169,10 @@ fn link_kept(
 }
 
 fn ends_at(links: &[u64], i: usize) -> Edge
-    requires { 3 * i + 1 < length links.now }
+    requires { 3 * i + 3 ≤ length links.now }
     ensures { result ≡ ends_at links.now i }
 {
-    Edge {
-        from: Handle {
-            packed: links[3 * i],
-        },
-        to: Handle {
-            packed: links[3 * i + 1],
-        },
-    }
+    Link::at(links, i).ends()
 }
 
 // Of two slots the one whose link is written first; `best` may be past all links, which is none so far.
@@ -222,9 +208,7 @@ fn first_lost(
 {
     let count = c.links;
     let mut best = count;
-    let mut i = count;
-    while 0 < i {
-        i -= 1;
+    for i in (0..count).rev() {
         if !link_kept(
             oldnodes,
             c,
@@ -248,10 +232,8 @@ fn links_before(links: &[u64], total: usize, e: Edge) -> usize
     ensures { result ≡ count (λ s. edge_before (ends s) e) (links_of total links.now) }
 {
     let mut n: usize = 0;
-    let mut i: usize = 0;
-    while i < total {
+    for i in 0..total {
         let f = ends_at(links, i);
-        i += 1;
         if f.before(e) {
             n += 1;
         }

@@ -7,3 +7,4 @@ pub mod Members
 pub mod Steps
 pub mod Table
 pub mod Writes
+pub mod Refusals

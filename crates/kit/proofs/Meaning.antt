@@ -8,7 +8,8 @@ use native.Mathlib.Nat.{le_of_suc-le-suc, not-suc-le-zero}
 use native.Mathlib.Omega.{arith}
 use borrow.Author.Tests.{not-true}
 use lib.ListN.{length, take, drop, get_or}
-use Rattle.kit.specs.declared.Found.TheVariants.{At, Nothing}
+use Rattle.std.specs.Prelude.{Some, None}
+use Rattle.std.specs.Option.{is_some}
 use Rattle.kit.specs.Loops.{find_from, first_or, all, any, distinct, sum, keep, lines}
 use Rattle.kit.proofs.Bools.{never, and_true_l, and_true_r, and_both, or_left, or_right, or_neither, not_true_false}
 use Rattle.kit.proofs.Steps.{found_at, none_passes}
@@ -66,26 +67,26 @@ module _ {A : Type 0} (p : A → Bool) where
       by false e go = let r = go (ap (λ (b : Bool). b || any p rs) (sym e) ∙ t) in (r.0, Memᴰ.tail r.1, r.2)
 
   -- a search finds nothing exactly when none passes
-  pub found-any : (i k : ℕ) (rs : List A) → find_from p i rs ≡ At k → any p rs ≡ true
+  pub found-any : (i k : ℕ) (rs : List A) → find_from p i rs ≡ Some k → any p rs ≡ true
   found-any i k [] e = let z : ◌≡◌ {A = ℕ} 0 1 = cc in absurd (omega arith)
   found-any i k (a ∷ rs) e = by (p a) e (found-any (i + 1) k rs)
     where
-      by : (b : Bool) → cond b (At i) (find_from p (i + 1) rs) ≡ At k → (find_from p (i + 1) rs ≡ At k → any p rs ≡ true) → (b || any p rs) ≡ true
+      by : (b : Bool) → cond b (Some i) (find_from p (i + 1) rs) ≡ Some k → (find_from p (i + 1) rs ≡ Some k → any p rs ≡ true) → (b || any p rs) ≡ true
       by true q go = refl
       by false q go = go q
 
-  pub nothing_any : (i : ℕ) (rs : List A) → find_from p i rs ≡ Nothing → any p rs ≡ false
+  pub nothing_any : (i : ℕ) (rs : List A) → find_from p i rs ≡ None → any p rs ≡ false
   nothing_any i rs e =
       none_of rs (λ a m.
       let r = at_mem m in
       ap p (sym (r.2 a)) ∙ none_passes p i rs e r.0 r.1 a)
 
   -- the first that passes is the one that a search finds
-  pub first_found : (d : A) (i k : ℕ) (rs : List A) → find_from p i rs ≡ At k → (e : A) → first_or d p rs ≡ get_or rs (k - i) e
+  pub first_found : (d : A) (i k : ℕ) (rs : List A) → find_from p i rs ≡ Some k → (e : A) → first_or d p rs ≡ get_or rs (k - i) e
   first_found d i k [] q e = let z : ◌≡◌ {A = ℕ} 0 1 = cc in absurd (omega arith)
   first_found d i k (a ∷ rs) q e = by (p a) refl q (λ r. first_found d (i + 1) k rs r e)
     where
-      by : (b : Bool) → p a ≡ b → cond b (At i) (find_from p (i + 1) rs) ≡ At k → (find_from p (i + 1) rs ≡ At k → first_or d p rs ≡ get_or rs (k - (i + 1)) e) → cond b a (first_or d p rs) ≡ get_or (a ∷ rs) (k - i) e
+      by : (b : Bool) → p a ≡ b → cond b (Some i) (find_from p (i + 1) rs) ≡ Some k → (find_from p (i + 1) rs ≡ Some k → first_or d p rs ≡ get_or rs (k - (i + 1)) e) → cond b a (first_or d p rs) ≡ get_or (a ∷ rs) (k - i) e
       by true t r go =
           let s : i ≡ k = cc in
           let z : k - i ≡ 0 = omega arith in
@@ -94,11 +95,11 @@ module _ {A : Type 0} (p : A → Bool) where
           let z : k - i ≡ suc (k - (i + 1)) = omega (arith, (found_at p (i + 1) k rs r).low) in
           rw z (go r)
 
-  pub first_none : (d : A) (i : ℕ) (rs : List A) → find_from p i rs ≡ Nothing → first_or d p rs ≡ d
+  pub first_none : (d : A) (i : ℕ) (rs : List A) → find_from p i rs ≡ None → first_or d p rs ≡ d
   first_none d i [] q = refl
   first_none d i (a ∷ rs) q = by (p a) q (first_none d (i + 1) rs)
     where
-      by : (b : Bool) → cond b (At i) (find_from p (i + 1) rs) ≡ Nothing → (find_from p (i + 1) rs ≡ Nothing → first_or d p rs ≡ d) → cond b a (first_or d p rs) ≡ d
+      by : (b : Bool) → cond b (Some i) (find_from p (i + 1) rs) ≡ None → (find_from p (i + 1) rs ≡ None → first_or d p rs ≡ d) → cond b a (first_or d p rs) ≡ d
       by true r go = let z : ◌≡◌ {A = ℕ} 0 1 = cc in absurd (omega arith)
       by false r go = go r
 
@@ -175,3 +176,12 @@ module _ {A B : Type 0} where
   pub lines-append : (f : A → List B) (rs ts : List A) → lines f (rs ++ ts) ≡ lines f rs ++ lines f ts
   lines-append f [] ts = refl
   lines-append f (a ∷ rs) ts = rw (lines-append f rs ts) (sym (append_assoc (f a) (lines f rs) (lines f ts)))
+
+-- a lookup finds something exactly when something passes
+pub found_some : {A : Type 0} (p : A → Bool) (i : ℕ) (rs : List A) → is_some (find_from p i rs) ≡ any p rs
+found_some p i [] = refl
+found_some p i (a ∷ rs) = by (p a) (found_some p (i + 1) rs)
+  where
+    by : (t : Bool) → is_some (find_from p (i + 1) rs) ≡ any p rs → is_some (cond t (Some i) (find_from p (i + 1) rs)) ≡ (t || any p rs)
+    by true e = refl
+    by false e = e

@@ -8,7 +8,7 @@ use native.Mathlib.Numerals.{add-one}
 use native.Mathlib.Omega.{arith}
 use lib.ListN.{length, take, drop, get_or, set, length-drop, length-take, drop_of_length-le}
 use lib.Seq.{take-length, drop-length, length-take-le, drop-cons, get_or-take, get_or-drop}
-use Rattle.kit.specs.declared.Found.TheVariants.{At, Nothing}
+use Rattle.std.specs.Prelude.{Some, None}
 use Rattle.kit.specs.Loops.{find_from, all, any, distinct, sum, count, map_from, keep}
 
 -- what is left of a list from place i on, in a turn of a loop
@@ -17,13 +17,13 @@ left_at l i d h = rw (add-one, drop-cons l i d h)
 
 module _ {A : Type 0} where
   -- a search: the element in front passes, or does not, or there is none
-  pub find_hit : (p : A → Bool) (i : ℕ) {a : A} {rs tail : List A} → rs ≡ a ∷ tail → p a ≡ true → find_from p i rs ≡ At i
+  pub find_hit : (p : A → Bool) (i : ℕ) {a : A} {rs tail : List A} → rs ≡ a ∷ tail → p a ≡ true → find_from p i rs ≡ Some i
   find_hit p i e t = rw (e, t)
 
   pub find_miss : (p : A → Bool) (i : ℕ) {a : A} {rs tail : List A} → rs ≡ a ∷ tail → p a ≡ false → find_from p i rs ≡ find_from p (i + 1) tail
   find_miss p i e t = rw (e, t)
 
-  pub find_end : (p : A → Bool) (i : ℕ) {rs : List A} → rs ≡ [] → find_from p i rs ≡ Nothing
+  pub find_end : (p : A → Bool) (i : ℕ) {rs : List A} → rs ≡ [] → find_from p i rs ≡ None
   find_end p i e = rw e
 
   -- a test of every element, and of some element
@@ -141,21 +141,21 @@ module _ {A : Type 0} (p : A → Bool) where
       earlier zero h d = t
       earlier (suc j) h d = f.first j (omega (arith, h, f.low)) d
 
-  found_by : (b : Bool) (i k : ℕ) (a : A) (rs : List A) → p a ≡ b → cond b (At i) (find_from p (i + 1) rs) ≡ At k → (find_from p (i + 1) rs ≡ At k → FoundAt p (i + 1) rs k) → FoundAt p i (a ∷ rs) k
+  found_by : (b : Bool) (i k : ℕ) (a : A) (rs : List A) → p a ≡ b → cond b (Some i) (find_from p (i + 1) rs) ≡ Some k → (find_from p (i + 1) rs ≡ Some k → FoundAt p (i + 1) rs k) → FoundAt p i (a ∷ rs) k
   found_by true i k a rs t e go =
       let q : i ≡ k = cc in
       subst (λ (x : ℕ). FoundAt p i (a ∷ rs) x) q (found_first i a rs t)
   found_by false i k a rs t e go = found-next i k a rs t (go e)
 
-  pub found_at : (i k : ℕ) (rs : List A) → find_from p i rs ≡ At k → FoundAt p i rs k
+  pub found_at : (i k : ℕ) (rs : List A) → find_from p i rs ≡ Some k → FoundAt p i rs k
   found_at i k [] e = let z : ◌≡◌ {A = ℕ} 0 1 = cc in absurd (omega arith)
   found_at i k (a ∷ rs) e = found_by (p a) i k a rs refl e (found_at (i + 1) k rs)
 
-  none_by : (b : Bool) (i : ℕ) (a : A) (rs : List A) → p a ≡ b → cond b (At i) (find_from p (i + 1) rs) ≡ Nothing → (p a ≡ false) × (find_from p (i + 1) rs ≡ Nothing)
+  none_by : (b : Bool) (i : ℕ) (a : A) (rs : List A) → p a ≡ b → cond b (Some i) (find_from p (i + 1) rs) ≡ None → (p a ≡ false) × (find_from p (i + 1) rs ≡ None)
   none_by true i a rs t e = let z : ◌≡◌ {A = ℕ} 0 1 = cc in absurd (omega arith)
   none_by false i a rs t e = (t, e)
 
-  pub none_passes : (i : ℕ) (rs : List A) → find_from p i rs ≡ Nothing → (j : ℕ) → j < length rs → (d : A) → p (get_or rs j d) ≡ false
+  pub none_passes : (i : ℕ) (rs : List A) → find_from p i rs ≡ None → (j : ℕ) → j < length rs → (d : A) → p (get_or rs j d) ≡ false
   none_passes i [] e j h d = absurd (not-suc-le-zero h)
   none_passes i (a ∷ rs) e zero h d = (none_by (p a) i a rs refl e).0
   none_passes i (a ∷ rs) e (suc j) h d = none_passes (i + 1) rs (none_by (p a) i a rs refl e).1 j (le_of_suc-le-suc h) d

@@ -2,3 +2,4 @@ pub mod Decimal
 pub mod Layout
 pub mod Loops
 pub mod Put
+pub mod Refusal

@@ -1,15 +1,14 @@
--- What the plain loops over records compute. A test is a Bool, so that each of these computes on an example.
-use Rattle.std.specs.Prelude.{ℕ, ◌+◌, Bool, true, false, cond, not, ◌&&◌, ◌||◌, List, [], ◌∷◌, ◌++◌, map, take, drop}
-use Rattle.kit.specs.declared.Found.{Found}
-use Rattle.kit.specs.declared.Found.TheVariants.{At, Nothing}
+-- What the plain loops over records compute: the standard library's functions, where it has them. A test is a Bool, so
+-- that each of these computes on an example.
+use Rattle.std.specs.Prelude.{ℕ, ◌+◌, Bool, true, cond, not, ◌&&◌, List, [], ◌∷◌, ◌++◌, map, take, drop, Option}
+use Rattle.std.specs.List.{list_all, list_any, filter, position_from}
 
 module _ {A : Type 0} where
   -- the place of the first element that passes the test, where the list's first has place i
-  abbrev pub find_from : (A → Bool) → ℕ → List A → Found
-  find_from p i [] = Nothing
-  find_from p i (a ∷ rs) = cond (p a) (At i) (find_from p (i + 1) rs)
+  abbrev pub find_from : (A → Bool) → ℕ → List A → Option ℕ
+  find_from p i rs = position_from p i rs
 
-  abbrev pub find : (A → Bool) → List A → Found
+  abbrev pub find : (A → Bool) → List A → Option ℕ
   find p rs = find_from p 0 rs
 
   -- the first element that passes, or d where none does
@@ -19,12 +18,10 @@ module _ {A : Type 0} where
 
   -- every element passes; some element passes
   abbrev pub all : (A → Bool) → List A → Bool
-  all p [] = true
-  all p (a ∷ rs) = p a && all p rs
+  all p rs = list_all p rs
 
   abbrev pub any : (A → Bool) → List A → Bool
-  any p [] = false
-  any p (a ∷ rs) = p a || any p rs
+  any p rs = list_any p rs
 
   -- no element is the same as a later one
   abbrev pub distinct : (A → A → Bool) → List A → Bool
@@ -45,8 +42,7 @@ module _ {A : Type 0} where
 
   -- the elements that pass, in their order
   abbrev pub keep : (A → Bool) → List A → List A
-  keep p [] = []
-  keep p (a ∷ rs) = cond (p a) (a ∷ keep p rs) (keep p rs)
+  keep p rs = filter p rs
 
   -- what each element gives, one after another
   abbrev pub lines : {B : Type 0} → (A → List B) → List A → List B

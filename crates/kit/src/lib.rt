@@ -1,15 +1,50 @@
 // Records in flat slices of numbers, the plain loops over them, text being written and decimal numbers:
-// the shared definitions (specs/) and laws (proofs/), what a lookup answers, and the writers of a number and of bytes.
+// the shared definitions (specs/) and laws (proofs/), what 01 refuses for, and the writers of a number and of bytes.
 #![tactic(auto)]
 
 ghost use Rattle.std.specs.Prelude.{◌≡◌, ◌+◌, ◌≤◌, length};
 ghost use Rattle.kit.specs.Put.{Put};
 ghost use Rattle.kit.specs.Decimal.{decimal};
+ghost use Rattle.kit.specs.Refusal.{number};
 
-#[derive(Clone, Copy)]
-pub enum Found {
-    At(usize),
-    Nothing,
+// What 01 refuses for, in the order of its numbers, from 1 to 13.
+#[derive(Clone, Copy, PartialEq, Eq)]
+pub enum Refusal {
+    Shape,
+    Name,
+    Letter,
+    Overlap,
+    Twice,
+    Absent,
+    Room,
+    Group,
+    Prefix,
+    Neighbours,
+    Ids,
+    Later,
+    Malformed,
+}
+
+impl Refusal {
+    pub fn number(self) -> u64
+        ensures { result ≡ number self }
+    {
+        match self {
+            Self::Shape => 1,
+            Self::Name => 2,
+            Self::Letter => 3,
+            Self::Overlap => 4,
+            Self::Twice => 5,
+            Self::Absent => 6,
+            Self::Room => 7,
+            Self::Group => 8,
+            Self::Prefix => 9,
+            Self::Neighbours => 10,
+            Self::Ids => 11,
+            Self::Later => 12,
+            Self::Malformed => 13,
+        }
+    }
 }
 
 // How many digits n has.
@@ -18,6 +53,7 @@ pub fn width(n: u64) -> usize
 {
     let mut w: usize = 1;
     let mut x = n;
+    // The number is divided: nothing is counted towards an end that is known.
     while 10 <= x {
         x = x / 10;
         w += 1;
@@ -47,10 +83,8 @@ pub fn put_bytes(out: &mut [u8], at: usize, bytes: &[u8]) -> usize
     requires { at + length bytes.now ≤ length out.old }
     ensures { Put out.old at bytes.now out.new result }
 {
-    let mut i: usize = 0;
-    while i < bytes.len() {
+    for i in 0..bytes.len() {
         out[at + i] = bytes[i];
-        i += 1;
     }
     at + bytes.len()
 }

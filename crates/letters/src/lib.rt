@@ -58,12 +58,5 @@ pub fn is_base(b: u8) -> bool
 pub fn all_letters(s: &[u8]) -> bool
     ensures { result ≡ all_letters s.now }
 {
-    let mut i: usize = 0;
-    while i < s.len() {
-        if !is_letter(s[i]) {
-            return false;
-        }
-        i += 1;
-    }
-    true
+    s.iter().all(|b| is_letter(*b))
 }

@@ -5,8 +5,6 @@
 ghost use Rattle.std.specs.Prelude.{◌≤◌, length};
 ghost use Rattle.text.specs.Search.{Piece};
 
-const NEWLINE: u8 = 10;
-
 // A text and the place where its next line begins.
 #[derive(Drop)]
 pub struct LineReader<'a> {
@@ -19,7 +17,7 @@ fn line_end(text: &[u8], at: usize) -> usize
     requires { at ≤ length text.now }
     ensures { Piece 10 text.now at result }
 {
-    text::pieces::piece_end(text, at, NEWLINE)
+    text::pieces::piece_end(text, at, b'\n')
 }
 
 impl<'a> LineReader<'a> {

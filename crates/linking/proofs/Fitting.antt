@@ -9,9 +9,9 @@ use lib.Dec.{leb}
 use lib.ListN.{length, drop}
 use Rattle.kit.specs.Layout.{encode}
 use Rattle.kit.proofs.Laws.{length-decode, encode-decode, then-decode, then-drop, then-length}
-use Rattle.store.specs.Graph.{Link, link_layout, links_of}
-use Rattle.linking.specs.declared.Made.{Made}
-use Rattle.linking.specs.declared.Made.TheVariants.{Count, Full}
+use Rattle.store.specs.Graph.{link_layout, links_of}
+use Rattle.store.specs.declared.Link.{Link}
+use Rattle.std.specs.Prelude.{Option, Some, None}
 use Rattle.linking.specs.Fit.{fitted, Makes}
 
 -- m holds these n links, and after them what l has there
@@ -31,7 +31,7 @@ module _ {l m : List ℕ} {rs : List Link} {n : ℕ} where
   holds_rest h k g = rw h.is (then-drop link_layout n k rs l h.many g)
 
   -- the answer of a step that fits, and of one that does not
-  pub made : Holds l rs n m → Makes l rs (Count n) m
+  pub made : Holds l rs n m → Makes l rs (Some n) m
   made h =
       let q = h.many in
       let r = h.room in
@@ -40,7 +40,7 @@ module _ {l m : List ℕ} {rs : List Link} {n : ℕ} where
         stands = λ _. rw h.many h.is;
       }
 
-pub full : {l m : List ℕ} (rs : List Link) → length l < 3 * length rs → Makes l rs Full m
+pub full : {l m : List ℕ} (rs : List Link) → length l < 3 * length rs → Makes l rs None m
 full {l} {m} rs h =
     record { answer = sym (rw (lt-leb (3 * length rs) (length l) h)); stands = λ g. absurd (omega arith) }
 
@@ -48,21 +48,21 @@ pub starts : (n : ℕ) (l : List ℕ) → 3 * n ≤ length l → Holds l (links_
 starts n l h = record { many = length-decode link_layout n l; room = h; is = sym (encode-decode link_layout n l h) }
 
 module _ (l : List ℕ) (rs : List Link) where
-  pub counted : (n : ℕ) (b : Bool) → leb (3 * length rs) (length l) ≡ b → Count n ≡ cond b (Count (length rs)) Full → (length rs ≡ n) × (3 * n ≤ length l)
+  pub counted : (n : ℕ) (b : Bool) → leb (3 * length rs) (length l) ≡ b → Some n ≡ cond b (Some (length rs)) None → (length rs ≡ n) × (3 * n ≤ length l)
   counted n true e q = let s : length rs ≡ n = cc in (s, omega (arith, leb-true (3 * length rs) (length l) e))
   counted n false e q = let z : ◌≡◌ {A = ℕ} 0 1 = cc in absurd (omega arith)
 
-  pub filled : (b : Bool) → leb (3 * length rs) (length l) ≡ b → Full ≡ cond b (Count (length rs)) Full → length l < 3 * length rs
+  pub filled : (b : Bool) → leb (3 * length rs) (length l) ≡ b → None ≡ cond b (Some (length rs)) None → length l < 3 * length rs
   filled true e q = let z : ◌≡◌ {A = ℕ} 0 1 = cc in absurd (omega arith)
   filled false e q = leb-false (3 * length rs) (length l) e
 
 -- what a step's answer tells
-pub made-count : {l m : List ℕ} {rs : List Link} {r : Made} (n : ℕ) → Makes l rs r m → r ≡ Count n → Holds l rs n m
+pub made-count : {l m : List ℕ} {rs : List Link} {r : Option ℕ} (n : ℕ) → Makes l rs r m → r ≡ Some n → Holds l rs n m
 made-count {l} {m} {rs} n s e =
     let c = counted l rs n (leb (3 * length rs) (length l)) refl (sym e ∙ s.answer) in
     record { many = c.0; room = c.1; is = rw (← c.0) (s.stands (omega arith)) }
 
-pub made_full : {l m : List ℕ} {rs : List Link} {r : Made} → Makes l rs r m → r ≡ Full → length l < 3 * length rs
+pub made_full : {l m : List ℕ} {rs : List Link} {r : Option ℕ} → Makes l rs r m → r ≡ None → length l < 3 * length rs
 made_full {l} {m} {rs} s e = filled l rs (leb (3 * length rs) (length l)) refl (sym e ∙ s.answer)
 
 -- one step after another, where the second takes none away
@@ -75,7 +75,7 @@ module _ {l m k : List ℕ} {rs ts : List Link} {n : ℕ} where
         is = s.is ∙ ap (λ (x : List ℕ). encode link_layout ts ++ x) (holds_rest h i g);
       }
 
-  pub then_makes : {r : Made} → Holds l rs n m → length rs ≤ length ts → Makes m ts r k → Makes l ts r k
+  pub then_makes : {r : Option ℕ} → Holds l rs n m → length rs ≤ length ts → Makes m ts r k → Makes l ts r k
   then_makes h g s =
       record {
         answer = s.answer ∙ ap (λ (x : ℕ). fitted x ts) (holds_size h);
@@ -85,12 +85,12 @@ module _ {l m k : List ℕ} {rs ts : List Link} {n : ℕ} where
       }
 
   -- what does not fit now never does
-  pub then_full : {us : List Link} {r : Made} {j : List ℕ} → Holds l rs n m → Makes m ts r k → r ≡ Full → length ts ≤ length us → Makes l us Full j
+  pub then_full : {us : List Link} {r : Option ℕ} {j : List ℕ} → Holds l rs n m → Makes m ts r k → r ≡ None → length ts ≤ length us → Makes l us None j
   then_full {us} h s e g = full us (omega (arith, made_full s e, holds_size h))
 
 -- where the links made so far are read back from the array
 pub then-own : {l m k : List ℕ} {ts : List Link} {n : ℕ} → Holds l (links_of n m) n m → (i : ℕ) → Holds m ts i k → length (links_of n m) ≤ length ts → Holds l (links_of i k) i k
 then-own h i s g = rw (holds_links s) (then_holds h i (omega (arith, h.many, s.many)) s)
 
-pub made_as : {l m : List ℕ} {rs ts : List Link} {n : ℕ} → Holds l rs n m → rs ≡ ts → Makes l ts (Count n) m
-made_as {l} {m} {rs} {ts} {n} h e = subst (λ (us : List Link). Makes l us (Count n) m) e (made h)
+pub made_as : {l m : List ℕ} {rs ts : List Link} {n : ℕ} → Holds l rs n m → rs ≡ ts → Makes l ts (Some n) m
+made_as {l} {m} {rs} {ts} {n} h e = subst (λ (us : List Link). Makes l us (Some n) m) e (made h)

@@ -18,7 +18,9 @@ use Rattle.handle.specs.declared.Edge.{Edge}
 use Rattle.handle.specs.Handle.{pack, id_of, flip, same_handle}
 use Rattle.handle.specs.Edge.{edge, written}
 use Rattle.handle.proofs.Handles.{id-pack, id-flip}
-use Rattle.store.specs.Graph.{Node, Link, link, ends}
+use Rattle.store.specs.Graph.{link, ends}
+use Rattle.store.specs.declared.Node.{Node}
+use Rattle.store.specs.declared.Link.{Link}
 use Rattle.store.specs.Views.{linked}
 use Rattle.formed.specs.WellFormed.{unmarked_link}
 use Rattle.sides.specs.Sides.{right_ends}

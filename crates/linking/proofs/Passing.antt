@@ -16,7 +16,8 @@ use Rattle.handle.specs.declared.Edge.{Edge}
 use Rattle.handle.specs.Handle.{id_of, flip, same_handle}
 use Rattle.handle.specs.Edge.{edge, written}
 use Rattle.handle.proofs.Handles.{id-flip, flip_packed}
-use Rattle.store.specs.Graph.{Link, link, ends, handle, links_of}
+use Rattle.store.specs.Graph.{link, ends, handle, links_of}
+use Rattle.store.specs.declared.Link.{Link}
 use Rattle.store.specs.Views.{linked}
 use Rattle.store.proofs.Fields.{link_at, back_link}
 use Rattle.formed.specs.WellFormed.{unmarked_link}

@@ -12,7 +12,8 @@ use Rattle.kit.proofs.Meaning.{all_of, all_mem, none_mem, distinct-first}
 use Rattle.handle.specs.declared.Handle.{Handle}
 use Rattle.handle.specs.Handle.{max_id, id_of, pack}
 use Rattle.handle.proofs.Handles.{id-pack}
-use Rattle.store.specs.Graph.{Node, Link}
+use Rattle.store.specs.declared.Node.{Node}
+use Rattle.store.specs.declared.Link.{Link}
 use Rattle.store.specs.Views.{largest}
 use Rattle.merging.specs.Merging.{is_forward}
 use Rattle.merging.specs.Plan.{long_by, fresh_after, prefix_by, alone_links, later_links}

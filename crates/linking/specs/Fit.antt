@@ -1,23 +1,23 @@
 -- Links made in room of the code's own: whether they fit, and what the code asks of those it starts from.
-use Rattle.std.specs.Prelude.{ℕ, ◌+◌, ◌*◌, ◌≤◌, ◌≡◌, Bool, true, cond, not, ◌&&◌, List, [], ◌∷◌, ◌++◌, map, eqb, leb, length, drop}
+use Rattle.std.specs.Prelude.{ℕ, ◌+◌, ◌*◌, ◌≤◌, ◌≡◌, Bool, true, cond, not, ◌&&◌, List, [], ◌∷◌, ◌++◌, map, eqb, leb, length, drop, Option, Some, None}
 use Rattle.kit.specs.Layout.{encode}
 use Rattle.kit.specs.Loops.{all, distinct, count}
 use Rattle.handle.specs.declared.Handle.{Handle}
 use Rattle.handle.specs.Handle.{max_id, id_of, pack}
-use Rattle.store.specs.Graph.{Node, Link, link_layout}
+use Rattle.store.specs.Graph.{link_layout}
+use Rattle.store.specs.declared.Node.{Node}
+use Rattle.store.specs.declared.Link.{Link}
 use Rattle.store.specs.Views.{largest}
 use Rattle.split.specs.Split.{split_links}
-use Rattle.linking.specs.declared.Made.{Made}
-use Rattle.linking.specs.declared.Made.TheVariants.{Count, Full}
 use Rattle.merging.specs.Merging.{is_forward, add_links, read_as}
 use Rattle.merging.specs.Plan.{bury, right_in, long_by, suffix_by}
 
 -- how many links stand in the room, or that it is full
-abbrev pub fitted : ℕ → List Link → Made
-fitted room rs = cond (leb (3 * length rs) room) (Count (length rs)) Full
+abbrev pub fitted : ℕ → List Link → Option ℕ
+fitted room rs = cond (leb (3 * length rs) room) (Some (length rs)) None
 
 -- the array l was made to hold these links, which left m and answered r; where they do not fit, m is no one's
-pub record Makes (l : List ℕ) (rs : List Link) (r : Made) (m : List ℕ) : Type 0 where
+pub record Makes (l : List ℕ) (rs : List Link) (r : Option ℕ) (m : List ℕ) : Type 0 where
   pub answer : r ≡ fitted (length l) rs
   pub stands : 3 * length rs ≤ length l → m ≡ encode link_layout rs ++ drop (3 * length rs) l
 

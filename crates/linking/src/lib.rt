@@ -14,14 +14,7 @@ ghost use Rattle.merging.specs.Plan.{bury, right_in, long_by, suffix_by, later_l
 ghost use Rattle.linking.specs.Fit.{Makes, given_by, prefix_if, later_by, ends_named, Later, Plans};
 
 use handle::{Edge, Handle};
-use kit::Found;
-
-// How many links stand then, or that they do not fit.
-#[derive(Clone, Copy)]
-pub enum Made {
-    Count(usize),
-    Full,
-}
+use store::Link;
 
 // Whether there is room for one link more.
 fn one_fits(links: &[u64], count: usize) -> bool
@@ -32,27 +25,27 @@ fn one_fits(links: &[u64], count: usize) -> bool
 }
 
 // A link from x to y in its written form, at the end.
-fn append_link(links: &mut [u64], count: usize, x: Handle, y: Handle) -> Made
+fn append_link(links: &mut [u64], count: usize, x: Handle, y: Handle) -> Option<usize>
     requires { 3 * count ≤ length links.old }
     ensures { Makes links.old (links_of count links.old ++ (link (written (edge x y)) 0 ∷ [])) result links.new }
 {
     if !one_fits(links, count) {
-        return Made::Full;
+        return None;
     }
     let e = Edge::written(x, y);
     split::push_link(links, count, e.from, e.to);
-    Made::Count(count + 1)
+    Some(count + 1)
 }
 
 // One already stored is not made again.
-fn add_link(links: &mut [u64], count: usize, x: Handle, y: Handle) -> Made
+fn add_link(links: &mut [u64], count: usize, x: Handle, y: Handle) -> Option<usize>
     requires { 3 * count ≤ length links.old }
     ensures { Makes links.old (add_link (edge x y) (links_of count links.old)) result links.new }
 {
-    let Found::At(_) = store::find_link(links, count, x, y) else {
+    let Some(_) = store::find_link(links, count, x, y) else {
         return append_link(links, count, x, y);
     };
-    Made::Count(count)
+    Some(count)
 }
 
 // The next neighbour on v's right above a packed number, by an unmarked link; 0 where there is none. From the last link to
@@ -62,17 +55,10 @@ fn next_unmarked(links: &[u64], count: usize, v: Handle, above: u64) -> u64
     ensures { result ≡ next_above above (right_in (links_of count links.now) v) }
 {
     let mut best: u64 = 0;
-    let mut i = count;
-    while 0 < i {
-        i -= 1;
-        if links[3 * i + 2] == 0 {
-            let from = Handle {
-                packed: links[3 * i],
-            };
-            let to = Handle {
-                packed: links[3 * i + 1],
-            };
-            best = sides::lead(v, from, to, above, best);
+    for i in (0..count).rev() {
+        let l = Link::at(links, i);
+        if l.mark == 0 {
+            best = sides::lead(v, l, above, best);
         }
     }
     best
@@ -84,10 +70,10 @@ fn read_as(m: Handle, x: Handle, y: Handle) -> Handle
 {
     let flip_m = m.flip();
     let flip_x = x.flip();
-    if y.same(m) {
+    if y == m {
         return x;
     }
-    if y.same(flip_m) {
+    if y == flip_m {
         return flip_x;
     }
     y
@@ -95,7 +81,7 @@ fn read_as(m: Handle, x: Handle, y: Handle) -> Handle
 
 // x is linked to m's neighbours, one after another. No link that is added is on m's node, so the search goes on along the
 // neighbours that m had.
-fn pass_on(links: &mut [u64], count: usize, m: Handle, x: Handle) -> Made
+fn pass_on(links: &mut [u64], count: usize, m: Handle, x: Handle) -> Option<usize>
     requires count_in_bounds { 3 * count ≤ length links.old }
     requires m_value { (eqb (id_of x) (id_of m) ≡ false) × (all ends_named (links_of count links.old) ≡ true) }
     ensures { Makes links.old (add_links x (map (read_as m x) (right_in (links_of count links.old) m)) (links_of count links.old)) result links.new }
@@ -105,57 +91,44 @@ fn pass_on(links: &mut [u64], count: usize, m: Handle, x: Handle) -> Made
     loop {
         let y = next_unmarked(links, n, m, above);
         if y == 0 {
-            return Made::Count(n);
+            return Some(n);
         }
         let to = read_as(m, x, Handle { packed: y });
-        let Made::Count(more) = add_link(links, n, x, to) else {
-            return Made::Full;
-        };
+        let more = add_link(links, n, x, to)?;
         n = more;
         above = y;
     }
 }
 
-fn bury_mark(from: Handle, to: Handle, mark: u64, id: u64) -> u64
-    ensures { result ≡ cond (eqb (id_of from) id || eqb (id_of to) id) 1 mark }
+fn bury_mark(l: Link, id: u64) -> u64
+    ensures { result ≡ cond (eqb (id_of l.from) id || eqb (id_of l.to) id) 1 l.mark }
 {
-    if from.id() == id {
+    if l.from.id() == id || l.to.id() == id {
         return 1;
     }
-    if to.id() == id {
-        return 1;
-    }
-    mark
+    l.mark
 }
 
 fn bury_links(links: &mut [u64], count: usize, id: u64)
     requires { 3 * count ≤ length links.old }
     ensures { links.new ≡ encode link_layout (map (bury id) (links_of count links.old)) ++ drop (3 * count) links.old }
 {
-    let mut i: usize = 0;
-    while i < count {
-        let from = Handle {
-            packed: links[3 * i],
-        };
-        let to = Handle {
-            packed: links[3 * i + 1],
-        };
-        links[3 * i + 2] = bury_mark(from, to, links[3 * i + 2], id);
-        i += 1;
+    for i in 0..count {
+        links[3 * i + 2] = bury_mark(Link::at(links, i), id);
     }
 }
 
 // The links of a split, where there is room for the one that is new.
-fn split_off(links: &mut [u64], count: usize, id: u64, fresh: u64) -> Made
+fn split_off(links: &mut [u64], count: usize, id: u64, fresh: u64) -> Option<usize>
     requires count_in_bounds { 3 * count ≤ length links.old }
     requires id_le_max_id { (id ≤ max_id) × (fresh ≤ max_id) }
     ensures { Makes links.old (split_links id fresh (links_of count links.old)) result links.new }
 {
     if !one_fits(links, count) {
-        return Made::Full;
+        return None;
     }
     split::split_links(links, count, id, fresh);
-    Made::Count(count + 1)
+    Some(count + 1)
 }
 
 // Which oriented node has a member's first letters, and which has the rest of a long one.
@@ -183,7 +156,14 @@ fn suffix_of(fresh: u64, m: Handle) -> Handle
 }
 
 // x is linked to a long member's suffix, or to an exact one's neighbours.
-fn give_links(links: &mut [u64], count: usize, m: Handle, x: Handle, fresh: u64, long: bool) -> Made
+fn give_links(
+    links: &mut [u64],
+    count: usize,
+    m: Handle,
+    x: Handle,
+    fresh: u64,
+    long: bool,
+) -> Option<usize>
     requires count_in_bounds { 3 * count ≤ length links.old }
     requires m_bound { (id_of m ≤ max_id) × (long ≡ true → fresh ≤ max_id) }
     requires m_value { (eqb (id_of x) (id_of m) ≡ false) × (all ends_named (links_of count links.old) ≡ true) }
@@ -192,9 +172,7 @@ fn give_links(links: &mut [u64], count: usize, m: Handle, x: Handle, fresh: u64,
     if !long {
         return pass_on(links, count, m, x);
     }
-    let Made::Count(n) = split_off(links, count, m.id(), fresh) else {
-        return Made::Full;
-    };
+    let n = split_off(links, count, m.id(), fresh)?;
     add_link(links, n, x, suffix_of(fresh, m))
 }
 
@@ -206,18 +184,16 @@ fn later_links(
     x: Handle,
     fresh: u64,
     long: bool,
-) -> Made
+) -> Option<usize>
     requires count_in_bounds { 3 * count ≤ length links.old }
     requires m_bound { (id_of m ≤ max_id) × (long ≡ true → fresh ≤ max_id) }
     requires m_value { (eqb (id_of x) (id_of m) ≡ false) × (all ends_named (links_of count links.old) ≡ true) }
     ensures { Makes links.old (later_by long x fresh (links_of count links.old) m) result links.new }
 {
-    let Made::Count(n) = give_links(links, count, m, x, fresh, long) else {
-        return Made::Full;
-    };
+    let n = give_links(links, count, m, x, fresh, long)?;
     let prefix = prefix_of(long, fresh, m);
     bury_links(links, n, prefix.id());
-    Made::Count(n)
+    Some(n)
 }
 
 // Whether a member has more letters than p, and the next fresh id after it.
@@ -248,29 +224,25 @@ fn later_all(
     p: u64,
     x: Handle,
     fresh: u64,
-) -> Made
+) -> Option<usize>
     requires node_count_in_bounds { (4 * node_count ≤ length nodes.now) × (3 * count ≤ length links.old) }
     requires later { Later p (nodes_of node_count nodes.now) x fresh (links_of count links.old) (drop 1 (map handle members.now)) }
     ensures { Makes links.old (later_links_all p (nodes_of node_count nodes.now) x fresh (links_of count links.old) (drop 1 (map handle members.now))) result links.new }
 {
     let mut n = count;
     let mut next = fresh;
-    let mut i: usize = 1;
-    while i < members.len() {
+    for i in 1..members.len() {
         let m = Handle { packed: members[i] };
         let long = is_long(nodes, node_count, m, p);
-        let Made::Count(more) = later_links(links, n, m, x, next, long) else {
-            return Made::Full;
-        };
+        let more = later_links(links, n, m, x, next, long)?;
         n = more;
         next = fresh_after(next, long);
-        i += 1;
     }
-    Made::Count(n)
+    Some(n)
 }
 
 // A member's prefix stands alone.
-fn alone_links(links: &mut [u64], count: usize, m: Handle, fresh: u64, long: bool) -> Made
+fn alone_links(links: &mut [u64], count: usize, m: Handle, fresh: u64, long: bool) -> Option<usize>
     requires count_in_bounds { 3 * count ≤ length links.old }
     requires m_bound { (id_of m ≤ max_id) × (long ≡ true → fresh ≤ max_id) }
     ensures { Makes links.old (cond long (split_links (id_of m) fresh (links_of count links.old)) (links_of count links.old)) result links.new }
@@ -278,7 +250,7 @@ fn alone_links(links: &mut [u64], count: usize, m: Handle, fresh: u64, long: boo
     if long {
         return split_off(links, count, m.id(), fresh);
     }
-    Made::Count(count)
+    Some(count)
 }
 
 // The links after a collapse: the first member's prefix is the shared node.
@@ -289,7 +261,7 @@ pub fn plan_links(
     count: usize,
     members: &[u64],
     p: u64,
-) -> Made
+) -> Option<usize>
     requires node_count_in_bounds { (4 * node_count ≤ length nodes.now) × (3 * count ≤ length links.old) }
     requires plans { Plans p (nodes_of node_count nodes.now) (links_of count links.old) (map handle members.now) }
     ensures { Makes links.old (planned p (nodes_of node_count nodes.now) (links_of count links.old) (map handle members.now)) result links.new }
@@ -297,9 +269,7 @@ pub fn plan_links(
     let first = Handle { packed: members[0] };
     let fresh = store::largest_id(nodes, node_count) + 1;
     let long = is_long(nodes, node_count, first, p);
-    let Made::Count(n) = alone_links(links, count, first, fresh, long) else {
-        return Made::Full;
-    };
+    let n = alone_links(links, count, first, fresh, long)?;
     let x = prefix_of(long, fresh, first);
     let next = fresh_after(fresh, long);
     later_all(nodes, node_count, links, n, members, p, x, next)

@@ -5,7 +5,9 @@ use mathlib.Core.List.{List, [], ◌∷◌, ◌++◌, append_assoc, append-nil}
 use native.Mathlib.Omega.{arith}
 use lib.ListN.{length, length-append}
 use Rattle.kit.specs.Loops.{sum}
-use Rattle.events.specs.Events.{Rule, Step, Rules, rule, Event, append, append_all, walks_of, rules_from}
+use Rattle.events.specs.Events.{Rules, rule, Event, append, append_all, walks_of, rules_from}
+use Rattle.events.specs.declared.Rule.{Rule}
+use Rattle.events.specs.declared.Step.{Step}
 use Rattle.events.proofs.Walks.{length-rules}
 
 abbrev pub table : List Rule → List Step → Rules

@@ -12,7 +12,8 @@ use Rattle.kit.specs.Loops.{all, any, distinct, sum, count}
 use Rattle.kit.proofs.Meaning.{distinct-rest}
 use Rattle.handle.specs.declared.Handle.{Handle}
 use Rattle.handle.specs.Handle.{id_of}
-use Rattle.store.specs.Graph.{Node, handle}
+use Rattle.store.specs.Graph.{handle}
+use Rattle.store.specs.declared.Node.{Node}
 use Rattle.store.specs.Views.{node_named, largest}
 use Rattle.affix.specs.Prefix.{members_once, handles_of}
 use Rattle.merging.specs.Plan.{long_by, fresh_after, prefix_by}

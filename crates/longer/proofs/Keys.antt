@@ -9,7 +9,8 @@ use Rattle.kit.specs.Loops.{all, any, distinct}
 use Rattle.kit.proofs.Bools.{eqb_sym}
 use Rattle.kit.proofs.Meaning.{any_append, none_mem, distinct-first, distinct-rest}
 use Rattle.kit.proofs.Lists.{any_same}
-use Rattle.events.specs.Events.{Rule, Rules, rule, keyed, Event, append, append_all}
+use Rattle.events.specs.Events.{Rules, rule, keyed, Event, append, append_all}
+use Rattle.events.specs.declared.Rule.{Rule}
 use Rattle.events.specs.WellFormed.{keys_once}
 use Rattle.longer.specs.Ahead.{keys_new}
 

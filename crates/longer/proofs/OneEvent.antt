@@ -12,7 +12,8 @@ use Rattle.kit.proofs.Meaning.{all_append}
 use Rattle.handle.specs.declared.Handle.{Handle}
 use Rattle.handle.specs.Handle.{id_of, flip}
 use Rattle.handle.proofs.Handles.{id-flip}
-use Rattle.events.specs.Events.{Step, step_to, turn_steps}
+use Rattle.events.specs.Events.{step_to, turn_steps}
+use Rattle.events.specs.declared.Step.{Step}
 use Rattle.merging.specs.Merging.{is_forward}
 use Rattle.merging.specs.Plan.{suffix_by}
 use Rattle.longer.specs.Longer.{walk_one, event_one, facing}

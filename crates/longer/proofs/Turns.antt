@@ -9,11 +9,13 @@ use Rattle.kit.specs.Loops.{all, any, count}
 use Rattle.kit.proofs.Steps.{sum_more}
 use Rattle.handle.specs.declared.Handle.{Handle}
 use Rattle.handle.specs.Handle.{id_of}
-use Rattle.store.specs.Graph.{Node, handle}
+use Rattle.store.specs.Graph.{handle}
+use Rattle.store.specs.declared.Node.{Node}
 use Rattle.store.specs.Views.{largest}
 use Rattle.affix.specs.Prefix.{handles_of}
 use Rattle.affix.proofs.Runs.{left-handle, no_handle}
-use Rattle.events.specs.Events.{Rule, keyed}
+use Rattle.events.specs.Events.{keyed}
+use Rattle.events.specs.declared.Rule.{Rule}
 use Rattle.merging.specs.Plan.{long_by, fresh_after, prefix_by}
 use Rattle.longer.specs.declared.Run.{Run}
 use Rattle.longer.specs.Ahead.{later_events_by, events_by, keys_new}

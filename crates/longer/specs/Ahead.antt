@@ -3,9 +3,11 @@ use Rattle.std.specs.Prelude.{ℕ, ◌+◌, ◌-◌, Bool, cond, not, List, [], 
 use Rattle.kit.specs.Loops.{all, any}
 use Rattle.handle.specs.declared.Handle.{Handle}
 use Rattle.handle.specs.Handle.{id_of}
-use Rattle.store.specs.Graph.{Node}
+use Rattle.store.specs.declared.Node.{Node}
 use Rattle.store.specs.Views.{node_named, largest}
-use Rattle.events.specs.Events.{Rule, Step, Event, event, step_to, turn_steps, keyed}
+use Rattle.events.specs.Events.{Event, event, step_to, turn_steps, keyed}
+use Rattle.events.specs.declared.Rule.{Rule}
+use Rattle.events.specs.declared.Step.{Step}
 use Rattle.merging.specs.Merging.{is_forward}
 use Rattle.merging.specs.Plan.{long_by, fresh_after, prefix_by, suffix_by}
 

@@ -4,11 +4,12 @@ use Rattle.kit.specs.Layout.{Layout, encode}
 use Rattle.kit.specs.Loops.{count}
 use Rattle.handle.specs.declared.Handle.{Handle}
 use Rattle.handle.specs.Handle.{max_id, id_of, pack, flip}
-use Rattle.store.specs.Graph.{Node}
+use Rattle.store.specs.declared.Node.{Node}
 use Rattle.store.specs.Views.{largest}
 use Rattle.affix.specs.Prefix.{members_live, members_once}
 use Rattle.events.specs.declared.Used.{Used}
-use Rattle.events.specs.Events.{Step, Rules, rule_layout, step_layout, Event, event, step_to, turn_steps}
+use Rattle.events.specs.Events.{Rules, rule_layout, step_layout, Event, event, step_to, turn_steps}
+use Rattle.events.specs.declared.Step.{Step}
 use Rattle.merging.specs.Merging.{is_forward}
 use Rattle.merging.specs.Plan.{long_by, prefix_by, suffix_by}
 use Rattle.longer.specs.declared.Run.{Run}

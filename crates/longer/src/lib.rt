@@ -14,9 +14,8 @@ ghost use Rattle.merging.specs.Plan.{long_by, fresh_after, suffix_by};
 ghost use Rattle.longer.specs.Ahead.{keys_new, steps_new, events_by};
 ghost use Rattle.longer.specs.Longer.{fresh_one, prefix_one, event_one, facing, beginning, events_from, front, Holds, RoomFor};
 
-use events::Used;
+use events::{Rule, Step, Used};
 use handle::Handle;
-use kit::Found;
 
 // How many letters the member has.
 fn len_of(nodes: &[u64], count: usize, m: Handle) -> u64
@@ -43,12 +42,10 @@ pub fn count_long(nodes: &[u64], node_count: usize, members: &[u64], p: u64) -> 
     ensures { result ≡ count (long_by p (nodes_of node_count nodes.now)) (handles_of members.now) }
 {
     let mut n: u64 = 0;
-    let mut i: usize = 0;
-    while i < members.len() {
+    for i in 0..members.len() {
         let m = Handle { packed: members[i] };
         let len = len_of(nodes, node_count, m);
         n = fresh_after(n, len, p);
-        i += 1;
     }
     n as usize
 }
@@ -68,10 +65,7 @@ fn no_rule(rules: &[u64], count: usize, id: u64, len: u64) -> bool
     requires { 4 * count ≤ length rules.now }
     ensures { result ≡ not (any (keyed id len) (rules_of count rules.now)) }
 {
-    let Found::At(_) = events::find_rule(rules, count, id, len) else {
-        return true;
-    };
-    false
+    !events::find_rule(rules, count, id, len).is_some()
 }
 
 // 5: no event of the collapse has a key that stands in the list.
@@ -87,14 +81,12 @@ pub fn keys_new(
     ensures { result ≡ keys_new (rules_of rule_count rules.now) (events_by p (nodes_of node_count nodes.now) (handles_of members.now)) }
 {
     let first = Handle { packed: members[0] };
-    let mut i = first_place(len_of(nodes, node_count, first), p);
-    while i < members.len() {
+    for i in first_place(len_of(nodes, node_count, first), p)..members.len() {
         let m = Handle { packed: members[i] };
         let len = len_of(nodes, node_count, m);
         if !no_rule(rules, rule_count, m.id(), len) {
             return false;
         }
-        i += 1;
     }
     true
 }
@@ -182,15 +174,13 @@ fn run_new(
 {
     let x = r.x;
     let mut fresh = r.fresh;
-    let mut i = r.place;
-    while i < members.len() {
+    for i in r.place..members.len() {
         let m = Handle { packed: members[i] };
         let len = len_of(nodes, node_count, m);
         if !event_new(rules, rule_count, m, len, p, x, fresh) {
             return false;
         }
         fresh = fresh_after(fresh, len, p);
-        i += 1;
     }
     true
 }
@@ -218,8 +208,8 @@ fn push_step(steps: &mut [u64], count: usize, node: Handle, len: u64)
     requires { 2 * (count + 1) ≤ length steps.old }
     ensures { steps.new ≡ front step_layout (steps_of count steps.old ++ (step_to node len ∷ [])) steps.old }
 {
-    steps[2 * count] = node.packed;
-    steps[2 * count + 1] = len;
+    let s = Step { node, len };
+    s.put(steps, count);
 }
 
 fn push_two(steps: &mut [u64], count: usize, a: Handle, size: u64, b: Handle, rest: u64)
@@ -235,10 +225,13 @@ fn push_rule(rules: &mut [u64], count: usize, id: u64, len: u64, first: usize, s
     requires { 4 * (count + 1) ≤ length rules.old }
     ensures { rules.new ≡ front rule_layout (rules_of count rules.old ++ (rule id len first steps ∷ [])) rules.old }
 {
-    rules[4 * count] = id;
-    rules[4 * count + 1] = len;
-    rules[4 * count + 2] = first as u64;
-    rules[4 * count + 3] = steps as u64;
+    let r = Rule {
+        id,
+        len,
+        first: first as u64,
+        steps: steps as u64,
+    };
+    r.put(rules, count);
 }
 
 // An oriented node as it stands in the walk of the member.
@@ -322,14 +315,12 @@ fn append_run(
 {
     let x = r.x;
     let mut fresh = r.fresh;
-    let mut i = r.place;
     let mut used = u;
-    while i < members.len() {
+    for i in r.place..members.len() {
         let m = Handle { packed: members[i] };
         let len = len_of(nodes, node_count, m);
         used = append_event(rules, steps, used, m, len, p, x, fresh);
         fresh = fresh_after(fresh, len, p);
-        i += 1;
     }
     used
 }

@@ -14,7 +14,8 @@ use Rattle.handle.specs.Handle.{max_id, id_of, dir_of, pack}
 use Rattle.handle.specs.Edge.{edge, written}
 use Rattle.handle.proofs.Handles.{id-pack, pack_unpack, dir_small, flip-reverse}
 use Rattle.handle.proofs.Edges.{written-turned, same-written}
-use Rattle.store.specs.Graph.{Node, Graph}
+use Rattle.store.specs.Graph.{Graph}
+use Rattle.store.specs.declared.Node.{Node}
 use Rattle.store.specs.Views.{node_named, stored, len_of, live_node, live_letters, spell, joins, linked}
 use Rattle.formed.specs.WellFormed.{good_graph, ids_once}
 use Rattle.formed.proofs.Says.{graph_says}

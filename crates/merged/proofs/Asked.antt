@@ -12,7 +12,8 @@ use Rattle.kit.proofs.Bools.{and_both, and_true_l}
 use Rattle.kit.proofs.Meaning.{all_map, all_mem, all_of, any_mem, any_some}
 use Rattle.handle.specs.declared.Handle.{Handle}
 use Rattle.handle.specs.Handle.{max_id, id_of}
-use Rattle.store.specs.Graph.{Link, Graph}
+use Rattle.store.specs.Graph.{Graph}
+use Rattle.store.specs.declared.Link.{Link}
 use Rattle.store.specs.Views.{named, stored, node_named, unmarked_node, live_here, live_node, largest}
 use Rattle.formed.specs.WellFormed.{good_node, good_link, good_graph}
 use Rattle.formed.proofs.Says.{node_says, link_says, graph_says}

@@ -12,7 +12,9 @@ use Rattle.kit.proofs.Lists.{any_same}
 use Rattle.handle.specs.declared.Handle.{Handle}
 use Rattle.handle.specs.Handle.{id_of, pack}
 use Rattle.handle.specs.Edge.{edge, written}
-use Rattle.store.specs.Graph.{Node, Link, Graph, node, link, ends}
+use Rattle.store.specs.Graph.{Graph, node, link, ends}
+use Rattle.store.specs.declared.Node.{Node}
+use Rattle.store.specs.declared.Link.{Link}
 use Rattle.store.specs.Views.{named, stored, unmarked_node, live_here, live_node, largest, joins, linked, live_link}
 use Rattle.formed.specs.WellFormed.{good_link, ids_once, unmarked_link}
 use Rattle.formed.proofs.Says.{link_says}

@@ -15,7 +15,9 @@ use Rattle.handle.specs.declared.Edge.{Edge}
 use Rattle.handle.specs.Handle.{id_of}
 use Rattle.handle.specs.Edge.{edge, written, same_ends}
 use Rattle.handle.proofs.Edges.{same_ends_lem, same-written, written-written}
-use Rattle.store.specs.Graph.{Node, Link, Graph, node, link, ends}
+use Rattle.store.specs.Graph.{Graph, node, link, ends}
+use Rattle.store.specs.declared.Node.{Node}
+use Rattle.store.specs.declared.Link.{Link}
 use Rattle.store.specs.Views.{named, stored, node_named, unmarked_node, live_node, largest, live_len, live_letters, joins, linked}
 use Rattle.formed.specs.WellFormed.{good_node, good_link, good_graph, ids_once, links_once}
 use Rattle.formed.proofs.Says.{node_says, says_node, says_link, graph_says, says_graph}

@@ -12,7 +12,9 @@ use Rattle.handle.specs.declared.Handle.{Handle}
 use Rattle.handle.specs.declared.Edge.{Edge}
 use Rattle.handle.specs.Handle.{id_of, pack}
 use Rattle.handle.specs.Edge.{edge, written}
-use Rattle.store.specs.Graph.{Node, Link, Graph, link, ends}
+use Rattle.store.specs.Graph.{Graph, link, ends}
+use Rattle.store.specs.declared.Node.{Node}
+use Rattle.store.specs.declared.Link.{Link}
 use Rattle.store.specs.Views.{linked}
 use Rattle.formed.specs.WellFormed.{unmarked_link}
 use Rattle.split.specs.Split.{fresh_id, move_link, split}

@@ -11,7 +11,8 @@ use Rattle.handle.specs.declared.Handle.{Handle}
 use Rattle.handle.specs.Handle.{id_of, flip, same_handle}
 use Rattle.handle.specs.Edge.{edge}
 use Rattle.handle.proofs.Handles.{id-flip}
-use Rattle.store.specs.Graph.{Link, Graph}
+use Rattle.store.specs.Graph.{Graph}
+use Rattle.store.specs.declared.Link.{Link}
 use Rattle.store.specs.Views.{stored, live_node, live_letters, linked}
 use Rattle.sides.specs.Sides.{right_of}
 use Rattle.sides.proofs.Sides.{side_live}

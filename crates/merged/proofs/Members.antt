@@ -16,7 +16,8 @@ use Rattle.handle.specs.declared.Edge.{Edge}
 use Rattle.handle.specs.Handle.{max_id, id_of, dir_of}
 use Rattle.handle.specs.Edge.{edge}
 use Rattle.letters.specs.Sequences.{oriented}
-use Rattle.store.specs.Graph.{Node, Graph}
+use Rattle.store.specs.Graph.{Graph}
+use Rattle.store.specs.declared.Node.{Node}
 use Rattle.store.specs.Views.{node_named, stored, len_of, live_node, largest, span, linked}
 use Rattle.formed.specs.WellFormed.{good_graph, ids_once}
 use Rattle.split.specs.Split.{fresh_id}

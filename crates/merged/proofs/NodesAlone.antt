@@ -13,7 +13,8 @@ use Rattle.kit.proofs.Meaning.{all_mem, all_of, any_append, any-map, none_mem, d
 use Rattle.kit.proofs.Lists.{any_same}
 use Rattle.handle.specs.declared.Handle.{Handle}
 use Rattle.handle.specs.Handle.{id_of}
-use Rattle.store.specs.Graph.{Node, Graph, node}
+use Rattle.store.specs.Graph.{Graph, node}
+use Rattle.store.specs.declared.Node.{Node}
 use Rattle.store.specs.Views.{named, node_named, stored, largest}
 use Rattle.split.specs.Split.{cut, rest, split, split_nodes}
 use Rattle.split.proofs.Nodes.{names, cut-id, named-cut}

@@ -17,7 +17,9 @@ use Rattle.handle.specs.Handle.{id_of, dir_of, flip}
 use Rattle.handle.specs.Edge.{edge, written}
 use Rattle.handle.proofs.Handles.{id-flip, same_handle_lem}
 use Rattle.handle.proofs.Edges.{same-written, written-written}
-use Rattle.store.specs.Graph.{Node, Link, Graph, link, ends}
+use Rattle.store.specs.Graph.{Graph, link, ends}
+use Rattle.store.specs.declared.Node.{Node}
+use Rattle.store.specs.declared.Link.{Link}
 use Rattle.store.specs.Views.{node_named, stored, len_of, live_node, span, spell, joins, joins_live, linked, live_linked}
 use Rattle.formed.specs.WellFormed.{good_node, good_link, good_graph, unmarked_link}
 use Rattle.formed.proofs.Says.{node_says, link_says, graph_says}

@@ -13,7 +13,9 @@ use Rattle.kit.proofs.Meaning.{all_mem, all_of}
 use Rattle.handle.specs.declared.Handle.{Handle}
 use Rattle.handle.specs.Handle.{id_of, pack}
 use Rattle.handle.specs.Edge.{edge}
-use Rattle.store.specs.Graph.{Node, Link, Graph}
+use Rattle.store.specs.Graph.{Graph}
+use Rattle.store.specs.declared.Node.{Node}
+use Rattle.store.specs.declared.Link.{Link}
 use Rattle.store.specs.Views.{live_node, live_letters, live_linked}
 use Rattle.formed.specs.WellFormed.{good_graph, ids_once, unmarked_link}
 use Rattle.split.specs.Split.{fresh_id, split_links}

@@ -11,7 +11,7 @@ use lib.ListN.{length, drop, get_or, set, get_or-map, length-set, length-map, le
 use lib.Seq.{drop-cons}
 use Rattle.kit.specs.Layout.{encode}
 use Rattle.kit.specs.Loops.{count, distinct}
-use Rattle.kit.specs.declared.Found.TheVariants.{At}
+use Rattle.std.specs.Prelude.{Some}
 use Rattle.kit.proofs.Bools.{never, or_false_l, or_false_r}
 use Rattle.kit.proofs.Laws.{length-decode, encode-decode, decode-at, decode-store, by_decode, rest-set, then-decode, then-drop}
 use Rattle.kit.proofs.Lists.{map-one, any_same, distinct-map}
@@ -19,7 +19,8 @@ use Rattle.kit.proofs.Meaning.{any-map, distinct-first, distinct-rest, none_mem}
 use Rattle.handle.specs.declared.Handle.{Handle}
 use Rattle.handle.specs.Handle.{max_id, id_of, dir_of}
 use Rattle.handle.proofs.Handles.{id-pack}
-use Rattle.store.specs.Graph.{Node, node, handle, node_layout, nodes_of, unpack_node}
+use Rattle.store.specs.Graph.{node, handle, node_layout, nodes_of, unpack_node}
+use Rattle.store.specs.declared.Node.{Node}
 use Rattle.store.specs.Views.{named, find_node, stored, node_named, largest}
 use Rattle.formed.specs.WellFormed.{ids_once}
 use Rattle.split.specs.Split.{cut, split_nodes}
@@ -29,7 +30,7 @@ use Rattle.merging.specs.Merging.{is_forward, mark_node}
 use Rattle.merging.specs.Plan.{long_by, cut_by, prefix_by, alone_nodes, later_nodes}
 
 -- the store of a mark, in the slot that a lookup found
-module _ (n id at : ℕ) (l : List ℕ) (f : find_node id (nodes_of n l) ≡ At at) (once : ids_once (nodes_of n l) ≡ true) (h : at < n) (room : 4 * n ≤ length l) where
+module _ (n id at : ℕ) (l : List ℕ) (f : find_node id (nodes_of n l) ≡ Some at) (once : ids_once (nodes_of n l) ≡ true) (h : at < n) (room : 4 * n ≤ length l) where
   abbrev with_mark : Node → Node
   with_mark r = node r.id r.start r.len 1
 

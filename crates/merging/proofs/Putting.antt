@@ -10,7 +10,9 @@ use lib.Seq.{set-get_or, get_or-set_other}
 use Rattle.kit.specs.Layout.{encode}
 use Rattle.kit.proofs.Laws.{length-decode, encode-decode, decode-take, push, then-decode, then-drop, alike_further}
 use Rattle.handle.specs.declared.Edge.{Edge}
-use Rattle.store.specs.Graph.{Node, Link, link, ends, link_layout, links_of}
+use Rattle.store.specs.Graph.{link, ends, link_layout, links_of}
+use Rattle.store.specs.declared.Node.{Node}
+use Rattle.store.specs.declared.Link.{Link}
 use Rattle.store.specs.Views.{live_link}
 use Rattle.merging.specs.Plan.{dim, remark}
 

@@ -5,7 +5,9 @@ use Rattle.handle.specs.declared.Handle.{Handle}
 use Rattle.handle.specs.declared.Edge.{Edge}
 use Rattle.handle.specs.Handle.{id_of, dir_of, pack, flip, same_handle}
 use Rattle.handle.specs.Edge.{edge, written}
-use Rattle.store.specs.Graph.{Node, Link, Graph, node, link}
+use Rattle.store.specs.Graph.{Graph, node, link}
+use Rattle.store.specs.declared.Node.{Node}
+use Rattle.store.specs.declared.Link.{Link}
 use Rattle.store.specs.Views.{named, len_of, linked}
 use Rattle.sides.specs.Sides.{right_of}
 use Rattle.split.specs.Split.{fresh_id, split}

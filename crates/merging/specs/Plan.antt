@@ -4,7 +4,9 @@ use Rattle.std.specs.Prelude.{ℕ, ◌+◌, ◌-◌, Bool, cond, ◌||◌, List,
 use Rattle.kit.specs.Loops.{keep, lines}
 use Rattle.handle.specs.declared.Handle.{Handle}
 use Rattle.handle.specs.Handle.{id_of, pack}
-use Rattle.store.specs.Graph.{Node, Link, link, ends}
+use Rattle.store.specs.Graph.{link, ends}
+use Rattle.store.specs.declared.Node.{Node}
+use Rattle.store.specs.declared.Link.{Link}
 use Rattle.store.specs.Views.{node_named, largest, live_link}
 use Rattle.formed.specs.WellFormed.{unmarked_link}
 use Rattle.sides.specs.Sides.{rising, right_ends}

@@ -7,22 +7,22 @@ ghost use Rattle.store.specs.Views.{live_link};
 ghost use Rattle.merging.specs.Plan.{dim, remark};
 
 use handle::Handle;
+use store::Link;
 
 // One link more, after the first `at`.
 fn put_link(plan: &mut [u64], at: usize, from: Handle, to: Handle, mark: u64)
     requires { 3 * (at + 1) ≤ length plan.old }
     ensures { plan.new ≡ encode link_layout (links_of at plan.old ++ (link (edge from to) mark ∷ [])) ++ drop (3 * (at + 1)) plan.old }
 {
-    plan[3 * at] = from.packed;
-    plan[3 * at + 1] = to.packed;
-    plan[3 * at + 2] = mark;
+    let l = Link { from, to, mark };
+    l.put(plan, at);
 }
 
-fn dim_mark(nodes: &[u64], node_count: usize, from: Handle, to: Handle, mark: u64) -> u64
+fn dim_mark(nodes: &[u64], node_count: usize, l: Link) -> u64
     requires { 4 * node_count ≤ length nodes.now }
-    ensures { result ≡ cond (live_link (nodes_of node_count nodes.now) (link (edge from to) mark)) 0 1 }
+    ensures { result ≡ cond (live_link (nodes_of node_count nodes.now) l) 0 1 }
 {
-    if store::live_link(nodes, node_count, from, to, mark) {
+    if store::live_link(nodes, node_count, l) {
         return 0;
     }
     1
@@ -33,17 +33,10 @@ pub fn dim_links(nodes: &[u64], node_count: usize, links: &[u64], count: usize, 
     requires { (4 * node_count ≤ length nodes.now) × (3 * count ≤ length links.now) × (3 * count ≤ length plan.old) }
     ensures { plan.new ≡ encode link_layout (map (dim (nodes_of node_count nodes.now)) (links_of count links.now)) ++ drop (3 * count) plan.old }
 {
-    let mut i: usize = 0;
-    while i < count {
-        let from = Handle {
-            packed: links[3 * i],
-        };
-        let to = Handle {
-            packed: links[3 * i + 1],
-        };
-        let mark = dim_mark(nodes, node_count, from, to, links[3 * i + 2]);
-        put_link(plan, i, from, to, mark);
-        i += 1;
+    for i in 0..count {
+        let l = Link::at(links, i);
+        let mark = dim_mark(nodes, node_count, l);
+        put_link(plan, i, l.from, l.to, mark);
     }
 }
 
@@ -52,11 +45,9 @@ fn put_ends(plan: &[u64], links: &mut [u64], count: usize)
     requires { (3 * count ≤ length plan.now) × (3 * count ≤ length links.old) }
     ensures { links.new ≡ encode link_layout (remark (links_of count links.old) (links_of count plan.now)) ++ drop (3 * count) links.old }
 {
-    let mut i: usize = 0;
-    while i < count {
+    for i in 0..count {
         links[3 * i] = plan[3 * i];
         links[3 * i + 1] = plan[3 * i + 1];
-        i += 1;
     }
 }
 
@@ -65,16 +56,9 @@ fn put_new(plan: &[u64], links: &mut [u64], start: usize, end: usize)
     requires { (start ≤ end) × (3 * end ≤ length plan.now) × (3 * end ≤ length links.old) }
     ensures { links.new ≡ encode link_layout (links_of start links.old ++ remark [] (drop start (links_of end plan.now))) ++ drop (3 * end) links.old }
 {
-    let mut i = start;
-    while i < end {
-        let from = Handle {
-            packed: plan[3 * i],
-        };
-        let to = Handle {
-            packed: plan[3 * i + 1],
-        };
-        split::push_link(links, i, from, to);
-        i += 1;
+    for i in start..end {
+        let l = Link::at(plan, i);
+        split::push_link(links, i, l.from, l.to);
     }
 }
 

@@ -10,13 +10,13 @@ ghost use Rattle.merging.specs.Merging.{is_forward, mark_node};
 ghost use Rattle.merging.specs.Plan.{long_by, prefix_by, alone_nodes, later_nodes, merged_nodes};
 
 use handle::Handle;
-use kit::Found;
+use store::Node;
 
 fn mark_node(nodes: &mut [u64], count: usize, id: u64)
     requires { (4 * count ≤ length nodes.old) × (ids_once (nodes_of count nodes.old) ≡ true) }
     ensures { nodes.new ≡ encode node_layout (map (mark_node id) (nodes_of count nodes.old)) ++ drop (4 * count) nodes.old }
 {
-    let Found::At(i) = store::find_node(nodes, count, id) else {
+    let Some(i) = store::find_node(nodes, count, id) else {
         return;
     };
     nodes[4 * i + 3] = 1;
@@ -42,10 +42,10 @@ fn alone_nodes(nodes: &mut [u64], count: usize, m: Handle, p: u64, fresh: u64) -
     ensures nodes_after { nodes.new ≡ encode node_layout (alone_nodes p (nodes_of count nodes.old) m) ++ drop (4 * result) nodes.old }
 {
     let id = m.id();
-    let Found::At(i) = store::find_node(nodes, count, id) else {
+    let Some(i) = store::find_node(nodes, count, id) else {
         return count;
     };
-    let len = nodes[4 * i + 2];
+    let len = Node::at(nodes, i).len;
     if len <= p {
         return count;
     }
@@ -97,11 +97,9 @@ pub fn merge_nodes(nodes: &mut [u64], node_count: usize, members: &[u64], p: u64
     let first = Handle { packed: members[0] };
     let fresh = store::largest_id(nodes, node_count) + 1;
     let mut n = alone_nodes(nodes, node_count, first, p, fresh);
-    let mut i: usize = 1;
-    while i < members.len() {
+    for i in 1..members.len() {
         let m = Handle { packed: members[i] };
         n = later_nodes(nodes, n, m, p);
-        i += 1;
     }
     n
 }

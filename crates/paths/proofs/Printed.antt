@@ -1,10 +1,10 @@
 -- What a caller sees, as far as the tests have come.
-use Prim.Native.Nat.{ℕ, ◌+◌, ◌≤◌, ◌<◌}
-use mathlib.Core.Path.{◌≡◌, refl, ap, ap₂, ◌∙◌, subst}
+use Prim.Native.Nat.{ℕ, ◌+◌, ◌≤◌}
+use mathlib.Core.Path.{◌≡◌, refl, ap₂, ◌∙◌, subst}
 use mathlib.Core.Bool.{cond, not}
 use mathlib.Core.List.{List, [], ◌∷◌, ◌++◌}
 use native.Mathlib.Omega.{arith}
-use borrow.Author.Tests.{eq-eqb, ne_eqb, lt-ltb, le-ltb}
+use borrow.Author.Tests.{eq-eqb, le-ltb}
 use lib.Dec.{eqb}
 use lib.ListN.{length, drop, length-append}
 use Rattle.kit.proofs.Writes.{sets-front}
@@ -16,16 +16,8 @@ empty [] h = refl
 empty (x ∷ l) h = absurd (omega arith)
 
 module _ (n : ℕ) (text room : List ℕ) where
-  pub no_lines : {number : ℕ} → number ≡ n → (number ≡ 0 → ⊥) → refused number room ≡ cond (not (eqb n 0)) (refused n room) (writing text room)
-  no_lines {number} e z = rw (← e, ne_eqb number 0 z)
-
   -- measuring left nothing in front of the room
   module _ (z : n ≡ 0) (front : List ℕ) (f : length front ≡ 0) {len : ℕ} (e : len ≡ capped (length room + 1) (0 + length text)) where
-    pub too_long : length (front ++ room) < len → refused 7 (front ++ room) ≡ cond (not (eqb n 0)) (refused n room) (writing text room)
-    too_long h =
-        let k : length room < length text = omega (arith, length-append front room) in
-        ap (λ (l : List ℕ). refused 7 (l ++ room)) (empty front f) ∙ rw (eq-eqb n 0 z, lt-ltb (length room) (length text) k)
-
     pub printed : {m : List ℕ} {next : ℕ} → len ≤ length (front ++ room) → Capped (length room + 1) (front ++ room) 0 text m next → outcome (record { number = 0; len = len }) m ≡ cond (not (eqb n 0)) (refused n room) (writing text room)
     printed {m} {next} h w =
         let k : len ≡ length text = omega (arith, length-append front room) in

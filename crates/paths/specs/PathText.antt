@@ -2,7 +2,8 @@
 -- "Numbers that say no", 1, 2 and 6, in the order of a reading.
 use Rattle.std.specs.Prelude.{ℕ, Bool, cond, not, ◌||◌, List, [], ◌++◌, eqb}
 use Rattle.kit.specs.Loops.{all, keep, lines}
-use Rattle.store.specs.Graph.{Node, Graph}
+use Rattle.store.specs.Graph.{Graph}
+use Rattle.store.specs.declared.Node.{Node}
 use Rattle.events.specs.Events.{Rules}
 use Rattle.spelling.specs.Spelling.{all_stored}
 use Rattle.rewriting.specs.Rewriting.{transform_walk}

@@ -12,6 +12,7 @@ ghost use Rattle.writing.specs.Outcome.{outcome, refused, writing};
 ghost use Rattle.paths.specs.PathText.{paths_text, paths_number};
 
 use events::Used;
+use kit::Refusal;
 use store::Counts;
 use writing::Written;
 
@@ -28,14 +29,19 @@ pub fn print_paths(
     requires { (4 * c.nodes ≤ length nodes.now) × (table_formed rules.now steps.now u ≡ true) }
     ensures { outcome result out.new ≡ cond (not (eqb (paths_number (nodes_of c.nodes nodes.now) text.now) 0)) (refused (paths_number (nodes_of c.nodes nodes.now) text.now) out.old) (writing (paths_text (graph_of nodes.now [] [] c) (list_of rules.now steps.now u) text.now) out.old) }
 {
-    let number = number::paths_number(nodes, c.nodes, text);
-    if number != 0 {
-        return Written { number, len: 0 };
+    if let Err(refusal) = number::check_paths(nodes, c.nodes, text) {
+        return Written {
+            number: refusal.number(),
+            len: 0,
+        };
     }
     let stop = out.len() + 1;
     let len = line::add_lines(nodes, c, rules, steps, u, text, &mut out[..0], stop);
     if out.len() < len {
-        return Written { number: 7, len: 0 };
+        return Written {
+            number: Refusal::Room.number(),
+            len: 0,
+        };
     }
     line::add_lines(nodes, c, rules, steps, u, text, out, stop);
     Written { number: 0, len }

@@ -1,6 +1,7 @@
 // What the P and W lines of a text are refused for. Other lines are not looked at.
 ghost use Rattle.std.specs.Prelude.{◌*◌, ◌≤◌, ◌≡◌, true, cond, length};
 ghost use Rattle.kit.specs.Loops.{all, keep};
+ghost use Rattle.kit.specs.Refusal.{number_of};
 ghost use Rattle.store.specs.Graph.{nodes_of};
 ghost use Rattle.spelling.specs.Spelling.{all_stored};
 ghost use Rattle.text.specs.Pieces.{lines_of};
@@ -8,7 +9,8 @@ ghost use Rattle.text.specs.Refusal.{first_number};
 ghost use Rattle.text.specs.Fields.{line_number, handles_said};
 ghost use Rattle.paths.specs.PathText.{is_path_line, paths_number};
 
-use fields::line_number;
+use fields::check_line;
+use kit::Refusal;
 use lines::next_line;
 use reading::steps::said_stored;
 use text::pieces::is_line;
@@ -19,29 +21,25 @@ fn is_path_line(line: &[u8]) -> bool
     is_line(line, b'P') || is_line(line, b'W')
 }
 
-fn own_number(line: &[u8]) -> u64
-    ensures { result ≡ cond (is_path_line line.now) (line_number line.now) 0 }
+fn check_own(line: &[u8]) -> Result<(), Refusal>
+    ensures { number_of result ≡ cond (is_path_line line.now) (line_number line.now) 0 }
 {
     if is_path_line(line) {
-        let r = line_number(line);
-        return r.number;
+        return check_line(line);
     }
-    0
+    Ok(())
 }
 
 // Pass one.
-fn first_number(text: &[u8]) -> u64
-    ensures { result ≡ first_number line_number (keep is_path_line (lines_of text.now)) }
+fn check_lines(text: &[u8]) -> Result<(), Refusal>
+    ensures { number_of result ≡ first_number line_number (keep is_path_line (lines_of text.now)) }
 {
     let mut from: usize = 0;
     loop {
         let end = next_line(text, from);
-        let number = own_number(&text[from..end]);
-        if number != 0 {
-            return number;
-        }
+        check_own(&text[from..end])?;
         if end == text.len() {
-            return 0;
+            return Ok(());
         }
         from = end + 1;
     }
@@ -51,10 +49,7 @@ fn own_stored(nodes: &[u64], count: usize, line: &[u8]) -> bool
     requires { 4 * count ≤ length nodes.now }
     ensures { result ≡ cond (is_path_line line.now) (all_stored (nodes_of count nodes.now) (handles_said line.now)) true }
 {
-    if is_path_line(line) {
-        return said_stored(nodes, count, line);
-    }
-    true
+    !is_path_line(line) || said_stored(nodes, count, line)
 }
 
 // Pass two.
@@ -75,16 +70,13 @@ fn lines_stored(nodes: &[u64], count: usize, text: &[u8]) -> bool
     }
 }
 
-pub fn paths_number(nodes: &[u64], count: usize, text: &[u8]) -> u64
+pub fn check_paths(nodes: &[u64], count: usize, text: &[u8]) -> Result<(), Refusal>
     requires { 4 * count ≤ length nodes.now }
-    ensures { result ≡ paths_number (nodes_of count nodes.now) text.now }
+    ensures { number_of result ≡ paths_number (nodes_of count nodes.now) text.now }
 {
-    let number = first_number(text);
-    if number != 0 {
-        return number;
-    }
+    check_lines(text)?;
     if !lines_stored(nodes, count, text) {
-        return 6;
+        return Err(Refusal::Absent);
     }
-    0
+    Ok(())
 }

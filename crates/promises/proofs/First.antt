@@ -13,9 +13,12 @@ use Rattle.kit.specs.Loops.{all}
 use Rattle.kit.proofs.Bools.{never, and_true_l, and_true_r, and_both}
 use Rattle.kit.proofs.Meaning.{all_append}
 use Rattle.handle.specs.declared.Handle.{Handle}
-use Rattle.store.specs.Graph.{Link, Graph}
+use Rattle.store.specs.Graph.{Graph}
+use Rattle.store.specs.declared.Link.{Link}
 use Rattle.store.specs.Order.{written_order}
-use Rattle.events.specs.Events.{Rule, Step, Rules, walk_of}
+use Rattle.events.specs.Events.{Rules, walk_of}
+use Rattle.events.specs.declared.Rule.{Rule}
+use Rattle.events.specs.declared.Step.{Step}
 use Rattle.scanning.specs.declared.Verdict.{Verdict}
 use Rattle.scanning.specs.Rules.{verdict, or_then, unless, steps_fault, rule_fault, rules_fault}
 use Rattle.keeping.specs.Kept.{nodes_fault, old_nodes, links_fault}

@@ -4,7 +4,7 @@ use mathlib.Core.Path.{◌≡◌, refl, sym, ap, ◌∙◌}
 use mathlib.Core.Bool.{true, ◌&&◌}
 use mathlib.Core.List.{List, [], ◌∷◌, ◌++◌, Memᴰ}
 use native.Mathlib.Omega.{arith}
-use Rattle.kit.specs.declared.Found.TheVariants.{Nothing}
+use Rattle.std.specs.Prelude.{None}
 use Rattle.kit.proofs.Bools.{never, and_true_l, and_true_r, and_both}
 use Rattle.kit.proofs.Meaning.{all_of, any_mem, any_some}
 use Rattle.handle.specs.declared.Handle.{Handle}
@@ -94,7 +94,7 @@ module _ (g : Graph) where
       let r = any_some (joins_live g.nodes e) g.links t in
       any_mem (joins e) r.1 (and_true_l (joins e r.0) (live_link g.nodes r.0) r.2)
 
-  no_gap : (i : ℕ) (h : Handle) (hs : List Handle) → live_walk g (h ∷ hs) ≡ true → gap_after g.links i h hs ≡ Nothing
+  no_gap : (i : ℕ) (h : Handle) (hs : List Handle) → live_walk g (h ∷ hs) ≡ true → gap_after g.links i h hs ≡ None
   no_gap i h [] t = refl
   no_gap i h (k ∷ hs) t = let m = live_says h k hs t in rw (linked-stored (edge h k) m.link_live) (no_gap (i + 1) k hs m.rest_live)
 

@@ -21,11 +21,15 @@ use Rattle.handle.specs.Handle.{id_of, pack}
 use Rattle.handle.specs.Edge.{edge, same_ends}
 use Rattle.handle.proofs.Handles.{id-pack}
 use Rattle.handle.proofs.Edges.{ends-refl}
-use Rattle.store.specs.Graph.{Node, Link, Graph, ends}
+use Rattle.store.specs.Graph.{Graph, ends}
+use Rattle.store.specs.declared.Node.{Node}
+use Rattle.store.specs.declared.Link.{Link}
 use Rattle.store.specs.Views.{named, stored, len_of, live_node, spell, joins, linked, live_linked}
 use Rattle.formed.specs.WellFormed.{good_graph, good_link}
 use Rattle.formed.proofs.Says.{graph_says, link_says}
-use Rattle.events.specs.Events.{Rule, Step, Rules, walk_of, keyed}
+use Rattle.events.specs.Events.{Rules, walk_of, keyed}
+use Rattle.events.specs.declared.Rule.{Rule}
+use Rattle.events.specs.declared.Step.{Step}
 use Rattle.events.specs.WellFormed.{keys_once}
 use Rattle.spelling.specs.Spelling.{spell_walk}
 use Rattle.rewriting.specs.Rewriting.{ruled, rule_under, nodes_on, image_of, transform_node, transform_walk}

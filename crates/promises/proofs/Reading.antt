@@ -14,7 +14,8 @@ use Rattle.letters.specs.Sequences.{all_letters}
 use Rattle.letters.proofs.Sequences.{oriented-letters, length-oriented}
 use Rattle.handle.specs.declared.Handle.{Handle}
 use Rattle.handle.specs.Handle.{id_of, dir_of}
-use Rattle.store.specs.Graph.{Node, Graph}
+use Rattle.store.specs.Graph.{Graph}
+use Rattle.store.specs.declared.Node.{Node}
 use Rattle.store.specs.Views.{named, node_named, span, spell, len_of}
 use Rattle.formed.specs.WellFormed.{good_node, good_graph}
 use Rattle.formed.proofs.Says.{node_says, graph_says}

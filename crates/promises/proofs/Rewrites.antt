@@ -12,8 +12,7 @@ use lib.Dec.{eqb}
 use lib.ListN.{length, drop, length-drop}
 use lib.Seq.{length-take-le}
 use Rattle.kit.specs.Loops.{all}
-use Rattle.kit.specs.declared.Found.{Found}
-use Rattle.kit.specs.declared.Found.TheVariants.{At, Nothing}
+use Rattle.std.specs.Prelude.{Option, Some, None}
 use Rattle.kit.proofs.Bools.{tests, and_true_l, and_true_r, and_both, or_cases}
 use Rattle.kit.proofs.Meaning.{all_mem, any_some, lines-append, first_some}
 use Rattle.letters.specs.Sequences.{same_spelling}
@@ -27,7 +26,8 @@ use Rattle.store.specs.Graph.{Graph, ends}
 use Rattle.store.specs.Views.{named, stored, len_of, live_node, spell, joins, linked, live_linked}
 use Rattle.sides.proofs.Sides.{linked-turned}
 use Rattle.formed.proofs.Says.{graph_says}
-use Rattle.events.specs.Events.{Step, Rules, rule, walk_of, keyed}
+use Rattle.events.specs.Events.{Rules, rule, walk_of, keyed}
+use Rattle.events.specs.declared.Step.{Step}
 use Rattle.events.specs.WellFormed.{good_rule, good_step}
 use Rattle.events.proofs.Says.{rule_says}
 use Rattle.spelling.specs.Spelling.{turn_walk, all_stored, gap_after, spell_walk}
@@ -68,7 +68,7 @@ steps-live new (s ∷ u ∷ ss) n h =
     })
 
 -- the place of a link that is stored, and what follows it
-no_gap : (b : Bool) (i : ℕ) (o : Found) → cond b o (At i) ≡ Nothing → (b ≡ true) × (o ≡ Nothing)
+no_gap : (b : Bool) (i : ℕ) (o : Option ℕ) → cond b o (Some i) ≡ None → (b ≡ true) × (o ≡ None)
 no_gap true i o e = (refl, e)
 no_gap false i o e = let z : ◌≡◌ {A = ℕ} 0 1 = cc in absurd (omega arith)
 
@@ -164,7 +164,7 @@ module _ (old new : Graph) (t : Rules) where
       lives : live_walk new (transform_walk old t (h ∷ hs)) ≡ true
       spells : same_spelling (spell_walk old (h ∷ hs)) (spell_walk new (transform_walk old t (h ∷ hs))) ≡ true
 
-    rewritten : (i : ℕ) (h : Handle) (hs : List Handle) → all_stored old.nodes (h ∷ hs) ≡ true → gap_after old.links i h hs ≡ Nothing → Rewritten h hs
+    rewritten : (i : ℕ) (h : Handle) (hs : List Handle) → all_stored old.nodes (h ∷ hs) ≡ true → gap_after old.links i h hs ≡ None → Rewritten h hs
     rewritten i h [] s n =
         let m = image-right h (and_true_l (stored (id_of h) old.nodes) true s) in
         let e = append-nil (transform_node old t h) in

@@ -13,7 +13,7 @@ use Rattle.handle.specs.Handle.{id_of}
 use Rattle.handle.specs.Edge.{edge}
 use Rattle.store.specs.Graph.{Graph}
 use Rattle.store.specs.Views.{len_of, live_linked}
-use Rattle.events.specs.Events.{Step}
+use Rattle.events.specs.declared.Step.{Step}
 use Rattle.scanning.specs.Rules.{step_lives, length_true, follows}
 use Rattle.promises.specs.Tests.{walk_tests}
 use Rattle.promises.specs.Conditions.{step_at, StepHolds}

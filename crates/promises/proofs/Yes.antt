@@ -15,12 +15,16 @@ use Rattle.letters.specs.Sequences.{same_spelling}
 use Rattle.handle.specs.declared.Handle.{Handle}
 use Rattle.handle.specs.Handle.{pack}
 use Rattle.handle.proofs.Handles.{id-pack}
-use Rattle.store.specs.Graph.{Node, Link, Graph}
+use Rattle.store.specs.Graph.{Graph}
+use Rattle.store.specs.declared.Node.{Node}
+use Rattle.store.specs.declared.Link.{Link}
 use Rattle.store.specs.Order.{written_order}
 use Rattle.store.specs.Views.{stored, len_of, live_node, spell}
 use Rattle.store.proofs.Order.{order_all}
 use Rattle.sides.proofs.Rising.{all-rising}
-use Rattle.events.specs.Events.{Rule, Step, Rules, walk_of}
+use Rattle.events.specs.Events.{Rules, walk_of}
+use Rattle.events.specs.declared.Rule.{Rule}
+use Rattle.events.specs.declared.Step.{Step}
 use Rattle.spelling.specs.Spelling.{spell_walk}
 use Rattle.rewriting.specs.Rewriting.{ruled, nodes_on}
 use Rattle.scanning.specs.Rules.{has_steps, lengths_sum, spells_key}

@@ -5,9 +5,13 @@ use Rattle.kit.specs.Loops.{sum, distinct, lines}
 use Rattle.letters.specs.Sequences.{same_spelling}
 use Rattle.handle.specs.Handle.{id_of, pack}
 use Rattle.handle.specs.Edge.{edge}
-use Rattle.store.specs.Graph.{Node, Link, Graph}
+use Rattle.store.specs.Graph.{Graph}
+use Rattle.store.specs.declared.Node.{Node}
+use Rattle.store.specs.declared.Link.{Link}
 use Rattle.store.specs.Views.{stored, len_of, live_node, spell, live_linked}
-use Rattle.events.specs.Events.{Rule, Step, Rules, step, walk_of}
+use Rattle.events.specs.Events.{Rules, step, walk_of}
+use Rattle.events.specs.declared.Rule.{Rule}
+use Rattle.events.specs.declared.Step.{Step}
 use Rattle.spelling.specs.Spelling.{spell_walk}
 use Rattle.rewriting.specs.Rewriting.{ruled, nodes_on, transform_node}
 use Rattle.keeping.specs.Kept.{last_of, first_of}

@@ -2,9 +2,12 @@
 use Rattle.std.specs.Prelude.{ℕ, ◌+◌, ◌<◌, ◌≡◌, Bool, true, false, List, [], ◌∷◌, ◌++◌, length, get_or}
 use Rattle.handle.specs.declared.Handle.{Handle}
 use Rattle.handle.specs.Handle.{id_of}
-use Rattle.store.specs.Graph.{Link, Graph}
+use Rattle.store.specs.Graph.{Graph}
+use Rattle.store.specs.declared.Link.{Link}
 use Rattle.store.specs.Order.{written_order}
-use Rattle.events.specs.Events.{Rule, Step, Rules, walk_of}
+use Rattle.events.specs.Events.{Rules, walk_of}
+use Rattle.events.specs.declared.Rule.{Rule}
+use Rattle.events.specs.declared.Step.{Step}
 use Rattle.scanning.specs.declared.Verdict.{Verdict}
 use Rattle.scanning.specs.Rules.{verdict, has_steps, step_lives, length_true, follows, lengths_sum, spells_key}
 use Rattle.keeping.specs.Kept.{node_kept, old_nodes, link_kept}

@@ -1,8 +1,7 @@
 -- Walks, and what it is to rewrite one rightly. A walk is a list of oriented nodes with at least one step.
-use Rattle.std.specs.Prelude.{◌≤◌, ◌≡◌, Bool, true, false, ◌&&◌, length}
+use Rattle.std.specs.Prelude.{◌≤◌, ◌≡◌, Bool, true, false, ◌&&◌, length, None}
 use mathlib.Core.List.{List, [], ◌∷◌, Memᴰ}
 use Rattle.kit.specs.Loops.{all}
-use Rattle.kit.specs.declared.Found.TheVariants.{Nothing}
 use Rattle.letters.specs.Sequences.{same_spelling}
 use Rattle.handle.specs.declared.Handle.{Handle}
 use Rattle.handle.specs.Handle.{id_of}
@@ -10,7 +9,9 @@ use Rattle.handle.specs.Edge.{edge}
 use Rattle.store.specs.Graph.{Graph}
 use Rattle.store.specs.Views.{stored, len_of, live_node, live_linked}
 use Rattle.formed.specs.WellFormed.{good_graph, ids_once}
-use Rattle.events.specs.Events.{Rule, Step, Rules, walk_of}
+use Rattle.events.specs.Events.{Rules, walk_of}
+use Rattle.events.specs.declared.Rule.{Rule}
+use Rattle.events.specs.declared.Step.{Step}
 use Rattle.events.specs.WellFormed.{good_table, keys_once}
 use Rattle.spelling.specs.Spelling.{all_stored, first_gap, spell_walk}
 use Rattle.rewriting.specs.Rewriting.{transform_walk}
@@ -20,7 +21,7 @@ use Rattle.scanning.specs.Rules.{is_old_key}
 pub record Walk (g : Graph) (hs : List Handle) : Type 0 where
   pub some_step : 1 ≤ length hs
   pub over_nodes : all_stored g.nodes hs ≡ true
-  pub over_links : first_gap g.links hs ≡ Nothing
+  pub over_links : first_gap g.links hs ≡ None
 
 -- over live nodes and live links
 abbrev pub live_walk : Graph → List Handle → Bool

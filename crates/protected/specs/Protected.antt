@@ -1,7 +1,7 @@
 -- Protected ids: 01 "Numbers that say no", 5 and 6.
 use Rattle.std.specs.Prelude.{ℕ, Bool, List, eqb}
 use Rattle.kit.specs.Loops.{all, distinct}
-use Rattle.store.specs.Graph.{Node}
+use Rattle.store.specs.declared.Node.{Node}
 use Rattle.store.specs.Views.{stored}
 
 -- 5: none is given twice

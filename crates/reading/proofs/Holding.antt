@@ -4,12 +4,15 @@ use mathlib.Core.Path.{◌≡◌, refl, sym, ap, ◌∙◌}
 use mathlib.Core.List.{List, ◌++◌}
 use native.Mathlib.Omega.{arith}
 use lib.ListN.{length, drop, length-append, length-drop}
+use Rattle.std.specs.Prelude.{Ok, Err}
+use Rattle.kit.specs.declared.Refusal.{Refusal}
+use Rattle.kit.specs.Refusal.{number}
 use Rattle.kit.specs.Layout.{encode}
 use Rattle.kit.proofs.Laws.{then-decode, then-length}
 use Rattle.store.specs.declared.Counts.{Counts}
 use Rattle.store.specs.Graph.{Graph, node_layout, link_layout, nodes_of, links_of}
 use Rattle.formed.proofs.Says.{Room, room_says, says_room}
-use Rattle.reading.specs.Reading.{Store, store, counts_of, empty, stopped}
+use Rattle.reading.specs.Reading.{Store, store, counts_of, empty, stopped, going}
 use Rattle.reading.specs.Held.{Held, Came, counts}
 
 pub same_store : {a b c d e f : List ℕ} → a ≡ d → b ≡ e → c ≡ f → store a b c ≡ store d e f
@@ -63,9 +66,15 @@ module _ {l : Store} {g : Graph} {m : Store} {c : Counts} (h : Held l g m c) whe
   pub link_room_lem : 3 * c.links ≤ length m.links
   link_room_lem = omega (arith, link-count, same-links, room_held.link_room)
 
-  -- a refusal keeps what is held
-  pub stops : (n : ℕ) → Came l (stopped n g) m (record { number = n; counts = c })
-  stops n = record { number = refl; held = h }
+  -- nothing more is read: a refusal, or a line that is passed over
+  same : Held l g m (counts_of g)
+  same = record { room = h.room; used = refl; arrays = h.arrays }
+
+  pub stops : (e : Refusal) → Came l (stopped (number e) g) m (Err e)
+  stops e = record { number = refl; held = same; used = tt }
+
+  pub goes : Came l (going g) m (Ok c)
+  goes = record { number = refl; held = same; used = h.used }
 
 -- before the first line, every array holds the empty graph
 pub held_none : (nodes letters links : List ℕ) → Held (store nodes letters links) empty (store nodes letters links) (counts 0 0 0)

@@ -1,4 +1,4 @@
-pub mod Clearing
+pub mod Found
 pub mod Holding
 pub mod Lines
 pub mod More

@@ -6,19 +6,22 @@ use mathlib.Core.List.{List, [], ◌∷◌, ◌++◌}
 use native.Mathlib.Omega.{arith}
 use lib.ListN.{length, drop, length-append, length-drop}
 use lib.Seq.{sets, sets-eq, take-append_seam, drop-append-add, drop-drop}
+use Rattle.std.specs.Prelude.{Ok, Err}
+use Rattle.kit.specs.declared.Refusal.TheVariants.{Twice, Room}
 use Rattle.kit.specs.Layout.{Layout, decode, encode}
 use Rattle.kit.proofs.Bools.{same_test}
 use Rattle.kit.proofs.Laws.{then-decode, then-drop}
 use Rattle.handle.specs.declared.Edge.{Edge}
 use Rattle.handle.specs.Edge.{written}
 use Rattle.store.specs.declared.Counts.{Counts}
-use Rattle.store.specs.Graph.{Graph, Link, node, link, node_layout, link_layout, nodes_of, links_of}
+use Rattle.store.specs.Graph.{Graph, node, link, node_layout, link_layout, nodes_of, links_of}
+use Rattle.store.specs.declared.Link.{Link}
 use Rattle.store.specs.Views.{stored, linked}
 use Rattle.formed.specs.WellFormed.{room_for}
 use Rattle.formed.proofs.Says.{room_says, says_room}
 use Rattle.reading.specs.Reading.{Store, store, counts_of, fits_in, with_segment, add_segment, add_link}
 use Rattle.reading.specs.Held.{Held, Came, counts}
-use Rattle.reading.proofs.Holding.{same_store, room_held, node-count, letter_count, link-count, nodes_now, letters_now, links_now, nodes_held, links_held, same_nodes, same-letters, same-links, stops}
+use Rattle.reading.proofs.Holding.{same_store, room_held, node-count, letter_count, link-count, nodes_now, letters_now, links_now, nodes_held, links_held, same_nodes, same-letters, same-links, stops, goes}
 
 -- one record after those of rs, in an array that holds them: m, which was l before them
 pub one_record : {A : Type 0} (L : Layout A) (rs : List A) (l : List ℕ) (n : ℕ) (a : A) {m m' : List ℕ} → n ≡ length rs → m ≡ encode L rs ++ drop (L.stride * length rs) l → m' ≡ encode L (decode L n m ++ (a ∷ [])) ++ drop (L.stride * (n + 1)) m → m' ≡ encode L (rs ++ (a ∷ [])) ++ drop (L.stride * length (rs ++ (a ∷ []))) l
@@ -73,18 +76,18 @@ module _ {l : Store} {g : Graph} {m : Store} {c : Counts} (h : Held l g m c) whe
             })
 
     -- 5
-    pub segment_again : stored id (nodes_of c.nodes m.nodes) ≡ true → Came l (add_segment l g id s) m (record { number = 5; counts = c })
-    segment_again t = rw (sym (ap (stored id) (nodes_held h)) ∙ t) (stops h 5)
+    pub segment_again : stored id (nodes_of c.nodes m.nodes) ≡ true → Came l (add_segment l g id s) m (Err Twice)
+    segment_again t = rw (sym (ap (stored id) (nodes_held h)) ∙ t) (stops h Twice)
 
     -- 7, or it is stored
     module _ (new : stored id (nodes_of c.nodes m.nodes) ≡ false) {b : Bool} (f : b ≡ room_for m.nodes m.letters [] (counts (c.nodes + 1) (c.letters + length s) 0)) where
       absent : stored id g.nodes ≡ false
       absent = sym (ap (stored id) (nodes_held h)) ∙ new
 
-      pub segment_full : b ≡ false → Came l (add_segment l g id s) m (record { number = 7; counts = c })
-      segment_full t = rw (absent, sym segment_fits ∙ sym f ∙ t) (stops h 7)
+      pub segment_full : b ≡ false → Came l (add_segment l g id s) m (Err Room)
+      segment_full t = rw (absent, sym segment_fits ∙ sym f ∙ t) (stops h Room)
 
-      pub segment_stored : b ≡ true → {nodes letters : List ℕ} {end : ℕ} → nodes ≡ encode node_layout (nodes_of c.nodes m.nodes ++ (node id c.letters (length s) 0 ∷ [])) ++ drop (4 * (c.nodes + 1)) m.nodes → letters ≡ sets m.letters c.letters s → end ≡ c.letters + length s → Came l (add_segment l g id s) (store nodes letters m.links) (record { number = 0; counts = counts (c.nodes + 1) end c.links })
+      pub segment_stored : b ≡ true → {nodes letters : List ℕ} {end : ℕ} → nodes ≡ encode node_layout (nodes_of c.nodes m.nodes ++ (node id c.letters (length s) 0 ∷ [])) ++ drop (4 * (c.nodes + 1)) m.nodes → letters ≡ sets m.letters c.letters s → end ≡ c.letters + length s → Came l (add_segment l g id s) (store nodes letters m.links) (Ok (counts (c.nodes + 1) end c.links))
       segment_stored t {nodes} {letters} {end} p q e =
           let fit : fits_in l g' ≡ true = sym segment_fits ∙ sym f ∙ t in
           let r = room_says l.nodes l.letters l.links (counts_of g') fit in
@@ -92,10 +95,11 @@ module _ {l : Store} {g : Graph} {m : Store} {c : Counts} (h : Held l g m c) whe
           rw (absent, fit)
           (record {
             number = refl;
+            used = rw (one-node, its_letters, e, node-count h, letter_count h, link-count h);
             held =
                 record {
                   room = fit;
-                  used = rw (one-node, its_letters, e, node-count h, letter_count h, link-count h);
+                  used = refl;
                   arrays =
                       same_store
                       (one_record node_layout g.nodes l.nodes c.nodes (node id (length g.letters) (length s) 0) (node-count h) (nodes_now h) n)
@@ -107,8 +111,8 @@ module _ {l : Store} {g : Graph} {m : Store} {c : Counts} (h : Held l g m c) whe
   -- a link
   module _ (e : Edge) where
     -- stored already: nothing changes
-    pub link_again : linked e (links_of c.links m.links) ≡ true → Came l (add_link l g e) m (record { number = 0; counts = c })
-    link_again t = rw (sym (ap (linked e) (links_held h)) ∙ t, h.room) (stops h 0)
+    pub link_again : linked e (links_of c.links m.links) ≡ true → Came l (add_link l g e) m (Ok c)
+    link_again t = rw (sym (ap (linked e) (links_held h)) ∙ t, h.room) (goes h)
 
     module _ (new : linked e (links_of c.links m.links) ≡ false) {b : Bool} (f : b ≡ room_for [] [] m.links (counts 0 0 (c.links + 1))) where
       unlinked : linked e g.links ≡ false
@@ -150,19 +154,20 @@ module _ {l : Store} {g : Graph} {m : Store} {c : Counts} (h : Held l g m c) whe
                 link_room = omega (arith, one_link, link-count h, same-links h, r.link_room);
               })
 
-      pub link_full : b ≡ false → Came l (add_link l g e) m (record { number = 7; counts = c })
-      link_full t = rw (unlinked, sym link_fits ∙ sym f ∙ t) (stops h 7)
+      pub link_full : b ≡ false → Came l (add_link l g e) m (Err Room)
+      link_full t = rw (unlinked, sym link_fits ∙ sym f ∙ t) (stops h Room)
 
-      pub link-stored : b ≡ true → {links : List ℕ} {w : Edge} → w ≡ written e → links ≡ encode link_layout (links_of c.links m.links ++ (link w 0 ∷ [])) ++ drop (3 * (c.links + 1)) m.links → Came l (add_link l g e) (store m.nodes m.letters links) (record { number = 0; counts = counts c.nodes c.letters (c.links + 1) })
+      pub link-stored : b ≡ true → {links : List ℕ} {w : Edge} → w ≡ written e → links ≡ encode link_layout (links_of c.links m.links ++ (link w 0 ∷ [])) ++ drop (3 * (c.links + 1)) m.links → Came l (add_link l g e) (store m.nodes m.letters links) (Ok (counts c.nodes c.letters (c.links + 1)))
       link-stored t {links} {w} v p =
           let fit : fits_in l g'' ≡ true = sym link_fits ∙ sym f ∙ t in
           rw (unlinked, fit)
           (record {
             number = refl;
+            used = rw (one_link, node-count h, letter_count h, link-count h);
             held =
                 record {
                   room = fit;
-                  used = rw (one_link, node-count h, letter_count h, link-count h);
+                  used = refl;
                   arrays =
                       same_store (nodes_now h) (letters_now h)
                       (one_record link_layout g.links l.links c.links (link (written e) 0) (link-count h) (links_now h) (rw (← v) p));

@@ -24,7 +24,7 @@ unfolding read_outcome pass_one_line pass_two_line line_number shape_number hand
 missing = refl
 
 abbrev number_of : List ℕ → ℕ
-number_of text = (read_text small text).refusal.number
+number_of text = (read_text small text).number
 
 -- 5 before 7 in a line; 7 in line two before 1 in line three; pass one before pass two; a repeated link takes no room
 order : map number_of (bytes "S\t1\tACG\nS\t1\tA" ∷ bytes "S\t1\tACG\nS\t2\tA\nS" ∷ bytes "L\t1\t+\t1\t+\t0M\nS" ∷ bytes "L\t1\t+\t1\t+\t0M\nS\t1\tA" ∷ bytes "S\t1\tA\nL\t1\t+\t1\t+\t0M\nL\t1\t-\t1\t-\t0M\n" ∷ bytes "S\t1\tA\nL\t1\t+\t1\t+\t0M\nL\t1\t-\t1\t+\t0M\n" ∷ []) ≡ 5 ∷ 7 ∷ 1 ∷ 0 ∷ 0 ∷ 7 ∷ []

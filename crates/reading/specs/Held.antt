@@ -1,10 +1,11 @@
 -- How far a reading has come in the lent arrays: what the functions that read a part of a text say.
-use Rattle.std.specs.Prelude.{ℕ, ◌≡◌, true, List}
+use Rattle.std.specs.Prelude.{ℕ, ◌≡◌, true, List, Result, IfOk}
+use Rattle.kit.specs.declared.Refusal.{Refusal}
+use Rattle.kit.specs.Refusal.{number_of}
 use Rattle.store.specs.declared.Counts.{Counts}
 use Rattle.store.specs.Graph.{Graph}
 use Rattle.reading.specs.Reading.{Store, store, Progress, counts_of, fits_in}
 use Rattle.reading.specs.Outcome.{holding}
-use Rattle.reading.specs.declared.Read.{Read}
 
 abbrev pub counts : ℕ → ℕ → ℕ → Counts
 counts nodes letters links = record { nodes = nodes; letters = letters; links = links }
@@ -15,18 +16,19 @@ pub record Held (l : Store) (g : Graph) (m : Store) (c : Counts) : Type 0 where
   pub used : c ≡ counts_of g
   pub arrays : m ≡ holding g l
 
--- the reading has come to p, and says so by r; a refusal keeps what was read before it
-pub record Came (l : Store) (p : Progress) (m : Store) (r : Read) : Type 0 where
-  pub number : r.number ≡ p.refusal.number
-  pub held : Held l p.graph m r.counts
+-- the reading has come to p, and says so by r; the arrays hold what was read, before a refusal as well
+pub record Came (l : Store) (p : Progress) (m : Store) (r : Result Counts Refusal) : Type 0 where
+  pub number : number_of r ≡ p.number
+  pub held : Held l p.graph m (counts_of p.graph)
+  pub used : IfOk r (λ c. c ≡ counts_of p.graph)
 
 -- a part of the reading takes the arrays from m to m' as f says, whatever they were before the reading and whatever they hold
-abbrev pub Does : (Store → Graph → Progress) → Store → Counts → Store → Read → Type 0
+abbrev pub Does : (Store → Graph → Progress) → Store → Counts → Store → Result Counts Refusal → Type 0
 Does f m c m' r = (l : Store) (g : Graph) → Held l g m c → Came l (f l g) m' r
 
 -- a part of pass one leaves the links alone, a part of pass two the nodes and letters
-abbrev pub OnSegments : (Store → Graph → Progress) → List ℕ → List ℕ → Counts → List ℕ → List ℕ → Read → Type 0
+abbrev pub OnSegments : (Store → Graph → Progress) → List ℕ → List ℕ → Counts → List ℕ → List ℕ → Result Counts Refusal → Type 0
 OnSegments f nodes letters c nodes' letters' r = (links : List ℕ) → Does f (store nodes letters links) c (store nodes' letters' links) r
 
-abbrev pub OnLinks : (Store → Graph → Progress) → List ℕ → List ℕ → Counts → List ℕ → Read → Type 0
+abbrev pub OnLinks : (Store → Graph → Progress) → List ℕ → List ℕ → Counts → List ℕ → Result Counts Refusal → Type 0
 OnLinks f nodes links c links' r = (letters : List ℕ) → Does f (store nodes letters links) c (store nodes letters links') r

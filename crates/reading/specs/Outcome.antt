@@ -2,7 +2,6 @@
 use Rattle.std.specs.Prelude.{ℕ, ◌*◌, cond, List, ◌++◌, map, length, drop}
 use Rattle.kit.specs.Layout.{encode}
 use Rattle.store.specs.Graph.{Graph, node_layout, link_layout}
-use Rattle.text.specs.declared.Refusal.{Refusal}
 use Rattle.reading.specs.Reading.{Store, Progress, store, counts_of, goes_on, empty, read_text}
 use Rattle.reading.specs.declared.Read.{Read}
 
@@ -17,9 +16,9 @@ outcome answer l = record { answer = answer; arrays = l }
 abbrev pub zeros : List ℕ → List ℕ
 zeros l = map (λ n. 0) l
 
-abbrev pub refused : Refusal → Store → Outcome
-refused why l =
-    outcome (record { number = why.number; counts = counts_of empty }) (store (zeros l.nodes) (zeros l.letters) (zeros l.links))
+abbrev pub refused : ℕ → Store → Outcome
+refused number l =
+    outcome (record { number = number; counts = counts_of empty }) (store (zeros l.nodes) (zeros l.letters) (zeros l.links))
 
 -- a graph in them: from the front, then what stood after it
 abbrev pub holding : Graph → Store → Store
@@ -30,7 +29,7 @@ holding g l =
 
 abbrev pub ending : Progress → Store → Outcome
 ending r l =
-    cond (goes_on r) (outcome (record { number = 0; counts = counts_of r.graph }) (holding r.graph l)) (refused r.refusal l)
+    cond (goes_on r) (outcome (record { number = 0; counts = counts_of r.graph }) (holding r.graph l)) (refused r.number l)
 
 unfoldable pub read_outcome : Store → List ℕ → Outcome
 read_outcome l text = ending (read_text l text) l

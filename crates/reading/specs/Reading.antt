@@ -7,8 +7,6 @@ use Rattle.store.specs.Graph.{Graph, node, link}
 use Rattle.store.specs.Views.{stored, linked}
 use Rattle.formed.specs.WellFormed.{room_for}
 use Rattle.spelling.specs.Spelling.{all_stored}
-use Rattle.text.specs.declared.Refusal.{Refusal}
-use Rattle.text.specs.Refusal.{refusal}
 use Rattle.text.specs.Pieces.{lines_of, field, is_line}
 use Rattle.text.specs.Names.{name_id}
 use Rattle.text.specs.Fields.{line_number, edge_of, handles_said}
@@ -29,19 +27,19 @@ counts_of g = record { nodes = length g.nodes; letters = length g.letters; links
 abbrev pub fits_in : Store → Graph → Bool
 fits_in l g = room_for l.nodes l.letters l.links (counts_of g)
 
--- what has been read, and what stopped it
+-- what has been read, and the number of what stopped it, 0 where nothing did
 pub record Progress : Type 0 where
-  pub refusal : Refusal
+  pub number : ℕ
   pub graph : Graph
 
 abbrev pub stopped : ℕ → Graph → Progress
-stopped number g = record { refusal = refusal number; graph = g }
+stopped number g = record { number = number; graph = g }
 
 abbrev pub going : Graph → Progress
 going g = stopped 0 g
 
 abbrev pub goes_on : Progress → Bool
-goes_on r = eqb r.refusal.number 0
+goes_on r = eqb r.number 0
 
 -- one more segment, its letters after those before it
 abbrev pub with_segment : Graph → ℕ → List ℕ → Graph

@@ -13,11 +13,12 @@ ghost use Rattle.reading.specs.Outcome.{outcome, read_outcome};
 ghost use Rattle.reading.specs.Held.{Came};
 
 use clear::clear_all;
+use kit::Refusal;
 use pass_one::pass_one;
 use pass_two::pass_two;
 use store::Counts;
 
-// 01's number, and what was read.
+// 01's number, and what was read. C gets it.
 #[repr(C)]
 #[derive(Clone, Copy)]
 pub struct Read {
@@ -32,26 +33,29 @@ const NONE: Counts = Counts {
 };
 
 // A refusal in the first pass leaves nothing to the second.
-fn both_passes(text: &[u8], nodes: &mut [u64], letters: &mut [u8], links: &mut [u64]) -> Read
+fn both_passes(
+    text: &[u8],
+    nodes: &mut [u64],
+    letters: &mut [u8],
+    links: &mut [u64],
+) -> Result<Counts, Refusal>
     ensures { Came (store nodes.old letters.old links.old) (read_text (store nodes.old letters.old links.old) text.now) (store nodes.new letters.new links.new) result }
 {
-    let one = pass_one(text, nodes, letters, NONE);
-    if one.number != 0 {
-        return one;
-    }
-    pass_two(text, nodes, links, one.counts)
+    let c = pass_one(text, nodes, letters, NONE)?;
+    pass_two(text, nodes, links, c)
 }
 
 pub fn read_text(text: &[u8], nodes: &mut [u64], letters: &mut [u8], links: &mut [u64]) -> Read
     ensures { outcome result (store nodes.new letters.new links.new) ≡ read_outcome (store nodes.old letters.old links.old) text.now }
 {
-    let r = both_passes(text, nodes, letters, links);
-    if r.number == 0 {
-        return r;
-    }
-    clear_all(nodes, letters, links);
-    Read {
-        number: r.number,
-        counts: NONE,
+    match both_passes(text, nodes, letters, links) {
+        Ok(counts) => Read { number: 0, counts },
+        Err(refusal) => {
+            clear_all(nodes, letters, links);
+            Read {
+                number: refusal.number(),
+                counts: NONE,
+            }
+        }
     }
 }

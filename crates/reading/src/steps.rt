@@ -9,7 +9,6 @@ ghost use Rattle.text.specs.Fields.{edge_of, handles_said};
 
 use fields::edge_of;
 use handle::Handle;
-use kit::Found;
 use text::pieces::{field, is_line, piece_end};
 use text::steps::{path_handle, walk_handle, walk_step_end};
 
@@ -17,10 +16,7 @@ fn is_stored(nodes: &[u64], count: usize, h: Handle) -> bool
     requires { 4 * count ≤ length nodes.now }
     ensures { result ≡ stored (id_of h) (nodes_of count nodes.now) }
 {
-    let Found::At(_) = store::find_node(nodes, count, h.id()) else {
-        return false;
-    };
-    true
+    store::find_node(nodes, count, h.id()).is_some()
 }
 
 fn path_stored(nodes: &[u64], count: usize, path: &[u8]) -> bool
@@ -45,6 +41,7 @@ fn walk_stored(nodes: &[u64], count: usize, walk: &[u8]) -> bool
     ensures { result ≡ all_stored (nodes_of count nodes.now) (walk_handles walk.now) }
 {
     let mut at: usize = 0;
+    // The place moves by what a step takes, so it is no count.
     while at < walk.len() {
         let end = walk_step_end(walk, at);
         if !is_stored(nodes, count, walk_handle(&walk[at..end])) {
@@ -60,15 +57,11 @@ fn ends_stored(nodes: &[u64], count: usize, line: &[u8]) -> bool
     ensures { result ≡ all_stored (nodes_of count nodes.now) ((edge_of line.now).from ∷ (edge_of line.now).to ∷ []) }
 {
     let e = edge_of(line);
-    let u = e.from;
-    let v = e.to;
-    if !is_stored(nodes, count, u) {
-        return false;
-    }
-    is_stored(nodes, count, v)
+    is_stored(nodes, count, e.from) && is_stored(nodes, count, e.to)
 }
 
 // 6: whether each node that the line names is stored.
+#[tactic(auto, unfolding(text::specs::Fields::handles_said))]
 pub fn said_stored(nodes: &[u64], count: usize, line: &[u8]) -> bool
     requires { 4 * count ≤ length nodes.now }
     ensures { result ≡ all_stored (nodes_of count nodes.now) (handles_said line.now) }

@@ -14,7 +14,7 @@ use Rattle.store.specs.declared.Counts.{Counts}
 use Rattle.store.specs.Graph.{Graph, nodes_of, graph_of}
 use Rattle.formed.specs.WellFormed.{well_formed, ids_once}
 use Rattle.formed.proofs.Says.{formed_room}
-use Rattle.events.specs.Events as events
+use Rattle.events.specs.declared.Step as walked
 use Rattle.scanning.specs.declared.Verdict.{Verdict}
 use Rattle.scanning.specs.Rules.{verdict, or_then, unless, step_lives, length_true, follows, step_fault, steps_fault}
 use Rattle.scanning.proofs.RuleTurns.{placed, step-placed}
@@ -56,7 +56,7 @@ module _ (n at : ℕ) (v w : Verdict) (z : eqb n 13 ≡ false) where
   turned true true false o = refl
 
 -- a step that is in range never gives 13
-not_13 : (g : Graph) (before : List events.Step) (s : events.Step) → eqb (step_fault g 0 0 before s).number 13 ≡ false
+not_13 : (g : Graph) (before : List walked.Step) (s : walked.Step) → eqb (step_fault g 0 0 before s).number 13 ≡ false
 not_13 g before s = by (step_lives g s) (length_true g s) (follows g before s)
   where
     by : (a b e : Bool) → eqb (or_then (unless a 21 0 0) (or_then (unless b 22 0 0) (unless e 23 0 0))).number 13 ≡ false
@@ -69,7 +69,7 @@ module _ (g : Graph) (rs : List Step) (start : Verdict) where
   abbrev pub record_at : ℕ → Step
   record_at i = get_or rs i (record_of 0 0 0)
 
-  abbrev last : ℕ → ℕ → List events.Step
+  abbrev last : ℕ → ℕ → List walked.Step
   last before at = cond (eqb before at) [] (step_of (record_at before) ∷ [])
 
   -- what is left from place `at` on
@@ -118,7 +118,7 @@ module _ (g : Graph) (rs : List Step) (start : Verdict) where
           ap (λ (l : List Step). or_then (unless (all in_range l) 13 0 0) (or_then v (steps_fault g 0 at b (map step_of l)))) (left_at rs at (record_of 0 0 0) h)
           ∙ ap (λ (f : Verdict). or_then (unless (in_range (record_at at) && all in_range (drop (at + 1) rs)) 13 0 0) (or_then v (or_then f w))) (step-placed g b s 0 at)
           ∙ turned n at v w (not_13 g b s) (in_range (record_at before)) (in_range (record_at at)) (all in_range (drop (at + 1) rs)) own_out
-          ∙ ap (λ (l : List events.Step). or_then (unless (all in_range (drop (at + 1) rs)) 13 0 0) (or_then after (steps_fault g 0 (at + 1) l (map step_of (drop (at + 1) rs))))) (sym e)
+          ∙ ap (λ (l : List walked.Step). or_then (unless (all in_range (drop (at + 1) rs)) 13 0 0) (or_then after (steps_fault g 0 (at + 1) l (map step_of (drop (at + 1) rs))))) (sym e)
 
       after_none : (n : ℕ) (p q t : Bool) → eqb n 13 ≡ p → eqb v.number 0 ≡ q → eqb n 0 ≡ t → (next_fault v n at).number ≡ 0 → next_fault v n at ≡ verdict 0 0 0
       after_none n true q t e f k = rw e (λ z. absurd (omega arith))
@@ -177,7 +177,7 @@ module _ (nodes letters links : List ℕ) (d : Counts) (count : ℕ) where
 
 module _ (nodes letters links : List ℕ) (d : Counts) where
   -- a step's conditions read no letters
-  steps_text_lem : (at : ℕ) (before ss : List events.Step) → steps_fault (graph_of nodes [] links d) 0 at before ss ≡ steps_fault (graph_of nodes letters links d) 0 at before ss
+  steps_text_lem : (at : ℕ) (before ss : List walked.Step) → steps_fault (graph_of nodes [] links d) 0 at before ss ≡ steps_fault (graph_of nodes letters links d) 0 at before ss
   steps_text_lem at before [] = refl
   steps_text_lem at [] (s ∷ ss) = ap (or_then (step_fault (graph_of nodes letters links d) 0 at [] s)) (steps_text_lem (at + 1) (s ∷ []) ss)
   steps_text_lem at (b ∷ bs) (s ∷ ss) = ap (or_then (step_fault (graph_of nodes letters links d) 0 at (b ∷ bs) s)) (steps_text_lem (at + 1) (s ∷ []) ss)

@@ -7,6 +7,7 @@ use Rattle.store.specs.declared.Counts.{Counts}
 use Rattle.store.specs.Graph.{Graph, nodes_of, graph_of}
 use Rattle.formed.specs.WellFormed.{well_formed, ids_once}
 use Rattle.events.specs.Events as events
+use Rattle.events.specs.declared.Step as walked
 use Rattle.scanning.specs.declared.Verdict.{Verdict}
 use Rattle.scanning.specs.Rules.{verdict, or_then, unless, step_fault, steps_fault}
 use Rattle.records.specs.declared.Step.{Step}
@@ -15,7 +16,7 @@ abbrev pub record_of : ℕ → ℕ → ℕ → Step
 record_of id direction len = record { id = id; direction = direction; length = len }
 
 -- the record as the table's step
-abbrev pub step_of : Step → events.Step
+abbrev pub step_of : Step → walked.Step
 step_of r = events.step (pack r.id r.direction).packed r.length
 
 -- an id is 1 to 4,294,967,295, a direction 0 or 1

@@ -57,12 +57,10 @@ fn scan_steps(nodes: &[u64], links: &[u64], d: Counts, steps: &[Step], start: Ve
 {
     let mut found = start;
     let mut before: usize = 0;
-    let mut at: usize = 0;
-    while at < steps.len() {
+    for at in 0..steps.len() {
         let number = crate::step_fault(nodes, links, d, steps, before, at);
         found = next_fault(found, number, at);
         before = at;
-        at += 1;
     }
     found
 }

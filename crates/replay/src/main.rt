@@ -11,13 +11,6 @@ use graph_runs::{changing, readers, rooms};
 use std::io;
 use text_runs::{parsers, printers};
 
-// Where reading goes on, and how much of the answers waits in the buffer.
-#[derive(Drop)]
-struct Turn {
-    source: Source,
-    at: usize,
-}
-
 // The operation with this name, on the numbers of its line. Those that lend the same memory are called through one
 // function. It is called from more than one place, so that the compiler leaves it a call of its own: arrays of one kind
 // then do not add to those of another on the stack.
@@ -32,35 +25,44 @@ fn answer(
     requires { Room at out.old }
     ensures { Room result out.new }
 {
-    if input::same_word(name, b"live_letters") {
-        return readers::run(rt, readers::LIVE_LETTERS, numbers, b"atannn", text, out, at);
-    }
-    if input::same_word(name, b"get_shared_prefix") {
-        return readers::run(
+    use readers::Operation;
+    use readers::run;
+    match name {
+        b"live_letters" => run(
             rt,
-            readers::GET_SHARED_PREFIX,
+            Operation::LiveLetters,
+            numbers,
+            b"atannn",
+            text,
+            out,
+            at,
+        ),
+        b"get_shared_prefix" => {
+            run(
+                rt,
+                Operation::GetSharedPrefix,
+                numbers,
+                b"atannnab",
+                text,
+                out,
+                at,
+            )
+        }
+        b"spell_walk" => run(
+            rt,
+            Operation::SpellWalk,
             numbers,
             b"atannnab",
             text,
             out,
             at,
-        );
+        ),
+        b"check_transform" => {
+            let shape = b"atannnatannnaanna";
+            run(rt, Operation::CheckTransform, numbers, shape, text, out, at)
+        }
+        _ => with_room(rt, name, numbers, text, out, at),
     }
-    if input::same_word(name, b"spell_walk") {
-        return readers::run(rt, readers::SPELL_WALK, numbers, b"atannnab", text, out, at);
-    }
-    if input::same_word(name, b"check_transform") {
-        return readers::run(
-            rt,
-            readers::CHECK_TRANSFORM,
-            numbers,
-            b"atannnatannnaanna",
-            text,
-            out,
-            at,
-        );
-    }
-    with_room(rt, name, numbers, text, out, at)
 }
 
 // The same for operations with room for numbers.
@@ -75,32 +77,34 @@ fn with_room(
     requires { Room at out.old }
     ensures { Room result out.new }
 {
-    if input::same_word(name, b"enumerate_branch") {
-        return rooms::run(
-            rt,
-            rooms::ENUMERATE_BRANCH,
-            numbers,
-            b"atannnnrr",
-            text,
-            out,
-            at,
-        );
+    use rooms::Operation;
+    use rooms::run;
+    match name {
+        b"enumerate_branch" => {
+            run(
+                rt,
+                Operation::EnumerateBranch,
+                numbers,
+                b"atannnnrr",
+                text,
+                out,
+                at,
+            )
+        }
+        b"transform_walk" => {
+            run(
+                rt,
+                Operation::TransformWalk,
+                numbers,
+                b"atannnaannar",
+                text,
+                out,
+                at,
+            )
+        }
+        b"expand" => run(rt, Operation::Expand, numbers, b"aannwr", text, out, at),
+        _ => that_changes(rt, name, numbers, text, out, at),
     }
-    if input::same_word(name, b"transform_walk") {
-        return rooms::run(
-            rt,
-            rooms::TRANSFORM_WALK,
-            numbers,
-            b"atannnaannar",
-            text,
-            out,
-            at,
-        );
-    }
-    if input::same_word(name, b"expand") {
-        return rooms::run(rt, rooms::EXPAND, numbers, b"aannwr", text, out, at);
-    }
-    that_changes(rt, name, numbers, text, out, at)
 }
 
 // The same for operations that change a graph and its event list.
@@ -115,29 +119,31 @@ fn that_changes(
     requires { Room at out.old }
     ensures { Room result out.new }
 {
-    if input::same_word(name, b"collapse") {
-        return changing::run(
+    use changing::Operation;
+    use changing::run;
+    match name {
+        b"collapse" => run(
             rt,
-            changing::COLLAPSE,
+            Operation::Collapse,
             numbers,
             b"stsnnnssnnan",
             text,
             out,
             at,
-        );
+        ),
+        b"collapse_all" => {
+            run(
+                rt,
+                Operation::CollapseAll,
+                numbers,
+                b"stsnnnssnna",
+                text,
+                out,
+                at,
+            )
+        }
+        _ => on_text(rt, name, numbers, text, out, at),
     }
-    if input::same_word(name, b"collapse_all") {
-        return changing::run(
-            rt,
-            changing::COLLAPSE_ALL,
-            numbers,
-            b"stsnnnssnna",
-            text,
-            out,
-            at,
-        );
-    }
-    on_text(rt, name, numbers, text, out, at)
 }
 
 // The same for operations on text.
@@ -152,64 +158,68 @@ fn on_text(
     requires { Room at out.old }
     ensures { Room result out.new }
 {
-    if input::same_word(name, b"read_gfa") {
-        return parsers::run(rt, parsers::READ_GFA, numbers, b"trtr", text, out, at);
+    use parsers::Operation::{ParseHeader, ReadGfa};
+    use printers::Operation::{ParseAndTransformPaths, PrintActiveSubgraph, PrintTransformations};
+    match name {
+        b"read_gfa" => parsers::run(rt, ReadGfa, numbers, b"trtr", text, out, at),
+        b"parse_header" => parsers::run(rt, ParseHeader, numbers, b"tt", text, out, at),
+        b"print_active_subgraph" => {
+            printers::run(rt, PrintActiveSubgraph, numbers, b"atannnb", text, out, at)
+        }
+        b"print_transformations" => {
+            printers::run(
+                rt,
+                PrintTransformations,
+                numbers,
+                b"atannnaannb",
+                text,
+                out,
+                at,
+            )
+        }
+        b"parse_and_transform_paths" => {
+            printers::run(
+                rt,
+                ParseAndTransformPaths,
+                numbers,
+                b"tatannnaannb",
+                text,
+                out,
+                at,
+            )
+        }
+        _ => output::put_text(rt, out, at, b"bad operation\n"),
     }
-    if input::same_word(name, b"parse_header") {
-        return parsers::run(rt, parsers::PARSE_HEADER, numbers, b"tt", text, out, at);
-    }
-    if input::same_word(name, b"print_active_subgraph") {
-        return printers::run(rt, printers::SUBGRAPH, numbers, b"atannnb", text, out, at);
-    }
-    if input::same_word(name, b"print_transformations") {
-        return printers::run(
-            rt,
-            printers::TRANSFORMATIONS,
-            numbers,
-            b"atannnaannb",
-            text,
-            out,
-            at,
-        );
-    }
-    if input::same_word(name, b"parse_and_transform_paths") {
-        return printers::run(rt, printers::PATHS, numbers, b"tatannnaannb", text, out, at);
-    }
-    output::put_text(rt, out, at, b"bad operation\n")
 }
 
-// One line: a case, or nothing where it is empty or begins with `#`.
+// One line: a case, or nothing where it is empty or begins with `#`. How much of the answers waits in the buffer.
 fn line(
     rt: &(impl Input + Print),
     buf: &mut [u8],
-    s: Source,
+    s: &mut Source,
     numbers: &mut [u64],
     text: &mut [u8],
     out: &mut [u8],
     at: usize,
-) -> Turn
+) -> usize
     requires { Room at out.old }
-    ensures { Room result.at out.new }
+    ensures { Room result out.new }
 {
     if stream::line_ends(s.last) {
-        return Turn { source: s, at };
+        return at;
     }
-    if s.last == input::HASH {
-        let source = stream::skip_line(rt, buf, s);
-        return Turn { source, at };
+    if s.last == Some(b'#') {
+        *s = stream::skip_line(rt, buf, *s);
+        return at;
     }
     let mut name = [0u8; 32];
-    let w = input::word(rt, buf, s, &mut name);
-    let k = w.count;
-    let r = input::numbers(rt, buf, w.source, numbers);
-    let n = r.count;
-    let source = stream::skip_line(rt, buf, r.source);
-    if !r.ok {
-        let to = output::put_text(rt, out, at, b"bad numbers\n");
-        return Turn { source, at: to };
-    }
-    let to = answer(rt, &name[..k], &numbers[..n], text, out, at);
-    Turn { source, at: to }
+    let k = input::word(rt, buf, s, &mut name).unwrap_or(0);
+    let count = input::numbers(rt, buf, s, numbers);
+    *s = stream::skip_line(rt, buf, *s);
+    let Some(n) = count else {
+        return output::put_text(rt, out, at, b"bad numbers\n");
+    };
+    answer(rt, &name[..k], &numbers[..n], text, out, at)
 }
 
 // Every line of the input; how much of the answers is left in the buffer. (2^40 lines is past any input.)
@@ -226,19 +236,15 @@ fn lines(
     let mut source = Source {
         at: 0,
         end: 0,
-        last: stream::NEWLINE,
+        last: None,
     };
     let mut at: usize = 0;
-    let mut turns: u64 = 0;
-    while turns < 1099511627776 {
+    for _ in 0..1099511627776_u64 {
         source = stream::advance(rt, buf, source);
-        if source.last == stream::END {
+        if source.last.is_none() {
             return at;
         }
-        let t = line(rt, buf, source, numbers, text, out, at);
-        source = t.source;
-        at = t.at;
-        turns += 1;
+        at = line(rt, buf, &mut source, numbers, text, out, at);
     }
     at
 }

@@ -1,10 +1,10 @@
 -- The protected list's lines, one after another.
 use Prim.Native.Nat.{ℕ, ◌+◌, ◌-◌, ◌≤◌}
-use mathlib.Core.Path.{◌≡◌, refl, sym, ap, ◌∙◌}
+use mathlib.Core.Path.{◌≡◌, sym, ap, ◌∙◌}
 use mathlib.Core.List.{List, [], ◌∷◌, ◌++◌}
 use native.Mathlib.Omega.{arith}
-use borrow.Author.Tests.{eq-eqb, ne_eqb}
-use lib.ListN.{length, take, drop, set, length-append, length-drop}
+use borrow.Author.Tests.{ne_eqb}
+use lib.ListN.{length, take, drop, length-append, length-drop}
 use lib.Seq.{sets, length-sets, length-take-le}
 use Rattle.kit.specs.Put.{Put}
 use Rattle.kit.proofs.Writes.{put-left}
@@ -12,19 +12,8 @@ use Rattle.text.specs.Names.{name_id}
 use Rattle.text.specs.Search.{Piece}
 use Rattle.request.specs.Ids.{said, ids_of}
 
-module _ (line : List ℕ) where
-  pub said_none : length line ≡ 0 → said line ≡ []
-  said_none h = rw (eq-eqb (length line) 0 h)
-
-  pub said-one : (length line ≡ 0 → ⊥) → said line ≡ name_id line ∷ []
-  said-one h = rw (ne_eqb (length line) 0 h)
-
-  -- what a line puts into the room
-  pub put_none : (ids : List ℕ) (i : ℕ) → length line ≡ 0 → Put ids i (said line) ids i
-  put_none ids i h = rw (said_none h) (record { place = omega arith; bytes = refl })
-
-  pub put_one : (ids : List ℕ) (i x : ℕ) → (length line ≡ 0 → ⊥) → x ≡ name_id line → Put ids i (said line) (set ids i x) (i + 1)
-  put_one ids i x h e = rw (said-one h, e) (record { place = omega arith; bytes = refl })
+said-one : (line : List ℕ) → (length line ≡ 0 → ⊥) → said line ≡ name_id line ∷ []
+said-one line h = rw (ne_eqb (length line) 0 h)
 
 said_short : (line : List ℕ) → length (said line) ≤ length line
 said_short [] = omega arith

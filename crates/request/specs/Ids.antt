@@ -1,9 +1,10 @@
 -- The protected list: one id to a line (docs/DECISIONS.md, F17), and its 2 and 7.
-use Rattle.std.specs.Prelude.{ℕ, Bool, cond, not, ◌&&◌, List, [], ◌∷◌, eqb, ltb, length}
+use Rattle.std.specs.Prelude.{ℕ, Bool, cond, not, ◌&&◌, List, [], ◌∷◌, eqb, ltb, length, Result, Ok, Err}
 use Rattle.std.proofs.lemmas.List.Edits.{sets}
 use Rattle.kit.specs.Loops.{any, lines}
 use Rattle.text.specs.Names.{name_id}
-use Rattle.request.specs.declared.ids.Listed.{Listed}
+use Rattle.kit.specs.declared.Refusal.{Refusal}
+use Rattle.kit.specs.Refusal.{number_of}
 
 abbrev pub is_empty : List ℕ → Bool
 is_empty line = eqb (length line) 0
@@ -28,8 +29,12 @@ pub record Outcome : Type 0 where
   pub count : ℕ
   pub ids : List ℕ
 
-abbrev pub listed : Listed → List ℕ → Outcome
-listed r ids = record { number = r.number; count = r.count; ids = ids }
+abbrev pub count_of : Result ℕ Refusal → ℕ
+count_of (Ok n) = n
+count_of (Err r) = 0
+
+abbrev pub listed : Result ℕ Refusal → List ℕ → Outcome
+listed r ids = record { number = number_of r; count = count_of r; ids = ids }
 
 -- 2, then 7, which change nothing; else the ids from the front of the room on
 abbrev pub list_outcome : List (List ℕ) → List ℕ → Outcome

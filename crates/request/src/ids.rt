@@ -1,27 +1,21 @@
 // The protected list: one id to a line.
-ghost use Rattle.std.specs.Prelude.{◌+◌, ◌≤◌, ◌≡◌, length};
+ghost use Rattle.std.specs.Prelude.{◌+◌, ◌≤◌, ◌≡◌, length, IfOk};
 ghost use Rattle.std.proofs.lemmas.List.Edits.{sets};
 ghost use Rattle.request.specs.Ids.{is_no_id, any_no_id, said, ids_of, listed, list_outcome};
 ghost use Rattle.kit.specs.Put.{Put};
 ghost use Rattle.text.specs.Pieces.{lines_of};
 
+use kit::Refusal;
 use text::names::name_id;
 use text::pieces::piece_end;
 
 const NEWLINE: u8 = 10;
 
-// The number, and how many ids stand at the front of the room.
-#[derive(Clone, Copy)]
-pub struct Listed {
-    pub number: u64,
-    pub count: usize,
-}
-
 // Empty lines are passed over.
 fn is_no_id(line: &[u8]) -> bool
     ensures { result ≡ is_no_id line.now }
 {
-    line.len() != 0 && name_id(line) == 0
+    !line.is_empty() && name_id(line) == 0
 }
 
 fn any_no_id(text: &[u8]) -> bool
@@ -44,10 +38,7 @@ fn any_no_id(text: &[u8]) -> bool
 fn says(line: &[u8]) -> usize
     ensures { result ≡ length (said line.now) }
 {
-    if line.len() == 0 {
-        return 0;
-    }
-    1
+    usize::from(!line.is_empty())
 }
 
 fn count(text: &[u8]) -> usize
@@ -69,7 +60,7 @@ fn put_id(line: &[u8], ids: &mut [u64], i: usize) -> usize
     requires { i + length (said line.now) ≤ length ids.old }
     ensures { Put ids.old i (said line.now) ids.new result }
 {
-    if line.len() == 0 {
+    if line.is_empty() {
         return i;
     }
     ids[i] = name_id(line);
@@ -92,27 +83,19 @@ fn put(text: &[u8], ids: &mut [u64])
     }
 }
 
-// 2 for a line that is no id, then 7 where there are more than the room is for; a refusal changes nothing.
-pub fn list(text: &[u8], ids: &mut [u64]) -> Listed
+// The ids at the front of the room, and how many. Refused for a line that is no id, then where there are more than the room
+// is for; a refusal changes nothing.
+pub fn list(text: &[u8], ids: &mut [u64]) -> Result<usize, Refusal>
     ensures ids_after { listed result ids.new ≡ list_outcome (lines_of text.now) ids.old }
-    ensures count_in_bounds { result.count ≤ length ids.new }
+    ensures count_in_bounds { IfOk result (λ n. n ≤ length ids.new) }
 {
     if any_no_id(text) {
-        return Listed {
-            number: 2,
-            count: 0,
-        };
+        return Err(Refusal::Name);
     }
     let n = count(text);
     if ids.len() < n {
-        return Listed {
-            number: 7,
-            count: 0,
-        };
+        return Err(Refusal::Room);
     }
     put(text, ids);
-    Listed {
-        number: 0,
-        count: n,
-    }
+    Ok(n)
 }

@@ -8,18 +8,20 @@ use native.Mathlib.Omega.{arith}
 use lib.ListN.{length, take, drop, get_or, length-map, length-drop, get_or-map}
 use lib.Seq.{length-take-le, get_or-take, get_or-drop}
 use Rattle.kit.specs.Loops.{all}
-use Rattle.kit.specs.declared.Found.{Found}
-use Rattle.kit.specs.declared.Found.TheVariants.{At, Nothing}
+use Rattle.std.specs.Prelude.{Option, Some, None}
 use Rattle.kit.proofs.Bools.{and_true_l, and_true_r}
 use Rattle.kit.proofs.Laws.{length-decode, decode-at}
 use Rattle.kit.proofs.Steps.{found_at}
 use Rattle.kit.proofs.Meaning.{first_found, found-any, nothing_any}
 use Rattle.handle.specs.declared.Handle.{Handle}
 use Rattle.handle.specs.Handle.{id_of}
-use Rattle.store.specs.Graph.{Node, handle}
+use Rattle.store.specs.Graph.{handle}
+use Rattle.store.specs.declared.Node.{Node}
 use Rattle.store.specs.Views.{node_named}
 use Rattle.events.specs.declared.Used.{Used}
-use Rattle.events.specs.Events.{Rule, Step, rule, step, rule_layout, step_layout, rules_of, steps_of, list_of, keyed, find_rule}
+use Rattle.events.specs.Events.{rule, step, rule_layout, step_layout, rules_of, steps_of, list_of, keyed, find_rule}
+use Rattle.events.specs.declared.Rule.{Rule}
+use Rattle.events.specs.declared.Step.{Step}
 use Rattle.events.specs.WellFormed.{room_for_rules, good_rule, good_step, good_table, table_formed}
 use Rattle.events.proofs.Fields.{rule_at, rule_is}
 use Rattle.events.proofs.Says.{rule_says}
@@ -32,7 +34,7 @@ pub record RuleFound (n : ℕ) (l : List ℕ) (id len i : ℕ) : Type 0 where
   pub here : rule_under id len (rules_of n l) ≡ rule_at l i
   pub is_ruled : ruled id len (rules_of n l) ≡ true
 
-pub rule_found : (n : ℕ) (l : List ℕ) (id len i : ℕ) → find_rule id len (rules_of n l) ≡ At i → RuleFound n l id len i
+pub rule_found : (n : ℕ) (l : List ℕ) (id len i : ℕ) → find_rule id len (rules_of n l) ≡ Some i → RuleFound n l id len i
 rule_found n l id len i e =
     let h : i < n = omega (arith, (found_at (keyed id len) 0 i (rules_of n l) e).high, length-decode rule_layout n l) in
     record {
@@ -41,11 +43,11 @@ rule_found n l id len i e =
       is_ruled = found-any (keyed id len) 0 i (rules_of n l) e;
     }
 
-pub rule_nowhere : (id len : ℕ) (rs : List Rule) → find_rule id len rs ≡ Nothing → ruled id len rs ≡ false
+pub rule_nowhere : (id len : ℕ) (rs : List Rule) → find_rule id len rs ≡ None → ruled id len rs ≡ false
 rule_nowhere id len rs e = nothing_any (keyed id len) 0 rs e
 
 -- the rule under a step's id and length, as the code looks it up
-pub looked_up : (nodes : List Node) (rules : List Rule) (h : Handle) (id len : ℕ) {x : Found} → id ≡ id_of h → len ≡ (node_named id nodes).len → x ≡ find_rule id len rules → find_rule (id_of h) (step_len nodes h) rules ≡ x
+pub looked_up : (nodes : List Node) (rules : List Rule) (h : Handle) (id len : ℕ) {x : Option ℕ} → id ≡ id_of h → len ≡ (node_named id nodes).len → x ≡ find_rule id len rules → find_rule (id_of h) (step_len nodes h) rules ≡ x
 looked_up nodes rules h id len e f q =
     sym (q ∙ ap₂ (λ (i l : ℕ). find_rule i l rules) e (f ∙ ap (λ (i : ℕ). (node_named i nodes).len) e))
 

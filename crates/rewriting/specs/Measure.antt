@@ -3,10 +3,10 @@ use Rattle.std.specs.Prelude.{ℕ, cond, List, eqb}
 use Rattle.kit.specs.Loops.{sum}
 use Rattle.handle.specs.declared.Handle.{Handle}
 use Rattle.handle.specs.Handle.{id_of}
-use Rattle.store.specs.Graph.{Node}
+use Rattle.store.specs.declared.Node.{Node}
 use Rattle.spelling.specs.Spelling.{turn_walk}
 use Rattle.spelling.specs.Measure.{step_len}
-use Rattle.events.specs.Events.{Rule}
+use Rattle.events.specs.declared.Rule.{Rule}
 use Rattle.rewriting.specs.Rewriting.{ruled, rule_under}
 
 -- a walk as a direction has it: 0 is forward, any other number reverse

@@ -8,7 +8,9 @@ use Rattle.store.specs.Graph.{Graph, nodes_of}
 use Rattle.store.specs.Views.{len_of}
 use Rattle.formed.specs.WellFormed.{old_formed, ids_once}
 use Rattle.events.specs.declared.Used.{Used}
-use Rattle.events.specs.Events.{Rule, Step, Rules, rule, rules_of, walk_of, keyed}
+use Rattle.events.specs.Events.{Rules, rule, rules_of, walk_of, keyed}
+use Rattle.events.specs.declared.Rule.{Rule}
+use Rattle.events.specs.declared.Step.{Step}
 use Rattle.events.specs.WellFormed.{table_formed, keys_once}
 use Rattle.spelling.specs.Spelling.{turn_walk}
 

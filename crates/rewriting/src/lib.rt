@@ -4,6 +4,7 @@
 
 ghost use Rattle.std.specs.Prelude.{◌+◌, ◌*◌, ◌≤◌, ◌<◌, ◌≡◌, true, [], length, get_or};
 ghost use Rattle.kit.specs.Put.{Put};
+ghost use Rattle.kit.specs.Refusal.{number_of};
 ghost use Rattle.store.specs.Graph.{handle, nodes_of, graph_of};
 ghost use Rattle.affix.specs.Prefix.{handles_of};
 ghost use Rattle.groups.specs.Groups.{numbers, over};
@@ -13,12 +14,12 @@ ghost use Rattle.spelling.specs.Measure.{within};
 ghost use Rattle.rewriting.specs.Rewriting.{nodes_on, transform_node, transform_walk, old_number};
 ghost use Rattle.rewriting.specs.Measure.{towards, new_len, new_walk_len};
 
-use events::Used;
+use events::{Rule, Step, Used};
 use handle::Handle;
-use kit::Found;
+use kit::Refusal;
 use store::Counts;
 
-// 13 of the old graph or the table, then 5 of either, else 0.
+// 13 of the old graph or the table, then 5 of either.
 pub fn old_number(
     nodes: &[u64],
     text: &[u8],
@@ -27,22 +28,22 @@ pub fn old_number(
     rules: &[u64],
     steps: &[u64],
     u: Used,
-) -> u64
-    ensures { result ≡ old_number nodes.now text.now links.now c rules.now steps.now u }
+) -> Result<(), Refusal>
+    ensures { number_of result ≡ old_number nodes.now text.now links.now c rules.now steps.now u }
 {
     if !formed::old_formed(nodes, text, links, c) {
-        return 13;
+        return Err(Refusal::Malformed);
     }
     if !events::table_formed(rules, steps, u) {
-        return 13;
+        return Err(Refusal::Malformed);
     }
     if !formed::ids_once(nodes, c.nodes) {
-        return 5;
+        return Err(Refusal::Twice);
     }
     if !events::keys_once(rules, u.rules) {
-        return 5;
+        return Err(Refusal::Twice);
     }
-    0
+    Ok(())
 }
 
 // How many steps stand for one step.
@@ -53,10 +54,10 @@ fn image_len(nodes: &[u64], count: usize, rules: &[u64], used: usize, step: u64)
     let h = Handle { packed: step };
     let id = h.id();
     let len = store::node_len(nodes, count, id);
-    let Found::At(i) = events::find_rule(rules, used, id, len) else {
+    let Some(i) = events::find_rule(rules, used, id, len) else {
         return 1;
     };
-    rules[4 * i + 3]
+    Rule::at(rules, i).steps
 }
 
 // How many steps the new walk has, if that is at most `room`.
@@ -67,21 +68,19 @@ pub fn rewritten_len(
     used: usize,
     walk: &[u64],
     room: usize,
-) -> Found
+) -> Option<usize>
     requires { (4 * count ≤ length nodes.now) × (4 * used ≤ length rules.now) }
     ensures { result ≡ within room (new_walk_len (nodes_of count nodes.now) (rules_of used rules.now) (handles_of walk.now)) }
 {
     let mut n: usize = 0;
-    let mut i: usize = 0;
-    while i < walk.len() {
+    for i in 0..walk.len() {
         let len = image_len(nodes, count, rules, used, walk[i]) as usize;
         if room - n < len {
-            return Found::Nothing;
+            return None;
         }
         n += len;
-        i += 1;
     }
-    Found::At(n)
+    Some(n)
 }
 
 // Step j of a rule's walk, `count` steps from `first` on, gone along in a direction.
@@ -97,13 +96,9 @@ pub fn image_step(
     ensures { result ≡ get_or (numbers (towards direction (nodes_on (steps_of total steps.now) (rule 0 0 first count)))) j 0 }
 {
     if direction == Handle::FORWARD {
-        return steps[2 * (first + j)];
+        return Step::at(steps, first + j).node.packed;
     }
-    let h = Handle {
-        packed: steps[2 * (first + (count - 1 - j))],
-    };
-    let turned = h.flip();
-    turned.packed
+    Step::at(steps, first + (count - 1 - j)).node.flip().packed
 }
 
 // Puts that walk from `at` on; the place after it.
@@ -119,10 +114,8 @@ fn put_image(
     requires { (2 * total ≤ length steps.now) × (first + count ≤ total) × (at + count ≤ length out.old) }
     ensures { Put out.old at (numbers (towards direction (nodes_on (steps_of total steps.now) (rule 0 0 first count)))) out.new result }
 {
-    let mut j: usize = 0;
-    while j < count {
+    for j in 0..count {
         out[at + j] = image_step(steps, total, first, count, direction, j);
-        j += 1;
     }
     at + count
 }
@@ -145,12 +138,13 @@ pub fn transform_node(
     let h = Handle { packed: step };
     let id = h.id();
     let len = store::node_len(nodes, c.nodes, id);
-    let Found::At(i) = events::find_rule(rules, u.rules, id, len) else {
+    let Some(i) = events::find_rule(rules, u.rules, id, len) else {
         out[at] = step;
         return at + 1;
     };
-    let first = rules[4 * i + 2] as usize;
-    let count = rules[4 * i + 3] as usize;
+    let r = Rule::at(rules, i);
+    let first = r.first as usize;
+    let count = r.steps as usize;
     put_image(steps, u.steps, first, count, h.direction(), at, out)
 }
 
@@ -169,9 +163,7 @@ pub fn write_walk(
     ensures { out.new ≡ over (numbers (transform_walk (graph_of nodes.now [] [] c) (list_of rules.now steps.now u) (handles_of walk.now))) out.old }
 {
     let mut at: usize = 0;
-    let mut i: usize = 0;
-    while i < walk.len() {
+    for i in 0..walk.len() {
         at = transform_node(nodes, c, rules, steps, u, walk[i], at, out);
-        i += 1;
     }
 }

@@ -18,9 +18,12 @@ use Rattle.letters.specs.Letters.{same_letter}
 use Rattle.letters.specs.Sequences.{same_spelling}
 use Rattle.letters.proofs.Sequences.{same-append, same_length}
 use Rattle.store.specs.declared.Counts.{Counts}
-use Rattle.store.specs.Graph.{Node, Graph, handle, graph_of}
+use Rattle.store.specs.Graph.{Graph, handle, graph_of}
+use Rattle.store.specs.declared.Node.{Node}
 use Rattle.store.specs.Views.{named, stored, live_here, live_node, spell}
-use Rattle.events.specs.Events.{Rule, Step, rules_of, steps_of, step_layout, rule_layout, walk_of}
+use Rattle.events.specs.Events.{rules_of, steps_of, step_layout, rule_layout, walk_of}
+use Rattle.events.specs.declared.Rule.{Rule}
+use Rattle.events.specs.declared.Step.{Step}
 use Rattle.events.proofs.Fields.{rule_at, step_at, left-rule, left_step}
 use Rattle.events.proofs.Order.{walk_is}
 use Rattle.spelling.specs.Spelling.{spell_walk}

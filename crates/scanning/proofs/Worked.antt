@@ -5,8 +5,11 @@ use mathlib.Core.List.{List, [], ◌∷◌}
 use Rattle.letters.specs.Letters.{complement_of, upper_of, is_base, is_letter}
 use Rattle.handle.specs.Handle.{pack, flip}
 use Rattle.handle.specs.Edge.{edge}
-use Rattle.store.specs.Graph.{Link, Graph, node, link}
-use Rattle.events.specs.Events.{Rule, Step, rule, step}
+use Rattle.store.specs.Graph.{Graph, node, link}
+use Rattle.store.specs.declared.Link.{Link}
+use Rattle.events.specs.Events.{rule, step}
+use Rattle.events.specs.declared.Rule.{Rule}
+use Rattle.events.specs.declared.Step.{Step}
 use Rattle.scanning.specs.declared.Verdict.{Verdict}
 use Rattle.scanning.specs.Rules.{verdict, rules_fault}
 

@@ -7,7 +7,9 @@ use Rattle.handle.specs.Handle.{id_of, pack}
 use Rattle.handle.specs.Edge.{edge}
 use Rattle.store.specs.Graph.{Graph}
 use Rattle.store.specs.Views.{stored, len_of, live_node, spell, live_linked}
-use Rattle.events.specs.Events.{Rule, Step, walk_of}
+use Rattle.events.specs.Events.{walk_of}
+use Rattle.events.specs.declared.Rule.{Rule}
+use Rattle.events.specs.declared.Step.{Step}
 use Rattle.spelling.specs.Spelling.{spell_walk}
 use Rattle.rewriting.specs.Rewriting.{nodes_on}
 use Rattle.scanning.specs.declared.Verdict.{Verdict}

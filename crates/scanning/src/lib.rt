@@ -16,12 +16,11 @@ ghost use Rattle.spelling.specs.Spelling.{spell_walk};
 ghost use Rattle.scanning.specs.Rules.{verdict, or_then, unless, step_fault, lengths_sum, is_old_key, spells_key, rules_fault};
 
 use affix::Reading;
-use events::Used;
+use events::{Rule, Step, Used};
 use handle::Handle;
-use kit::Found;
-use store::Counts;
+use store::{Counts, Node};
 
-// 01's number, and two places.
+// 01's number, and two places. C gets it.
 #[repr(C)]
 #[derive(Clone, Copy)]
 pub struct Verdict {
@@ -53,26 +52,21 @@ pub fn step_fault(
     requires at_in_bounds { (2 * at + 1 < length steps.now) × (j ≤ at) }
     ensures { result ≡ (step_fault (graph_of nodes.now [] links.now d) 0 0 (cond (eqb j 0) [] (step (get_or steps.now (2 * (at - 1)) 0) (get_or steps.now (2 * (at - 1) + 1) 0) ∷ [])) (step (get_or steps.now (2 * at) 0) (get_or steps.now (2 * at + 1) 0))).number }
 {
-    let node = Handle {
-        packed: steps[2 * at],
-    };
-    let id = node.id();
-    let Found::At(i) = store::find_node(nodes, d.nodes, id) else {
+    let s = Step::at(steps, at);
+    let id = s.node.id();
+    let Some(i) = store::find_node(nodes, d.nodes, id) else {
         return 21;
     };
     if !store::live_node(nodes, d.nodes, id) {
         return 21;
     }
-    if steps[2 * at + 1] != nodes[4 * i + 2] {
+    if s.len != Node::at(nodes, i).len {
         return 22;
     }
     if j == 0 {
         return 0;
     }
-    let before = Handle {
-        packed: steps[2 * (at - 1)],
-    };
-    if !store::live_linked(nodes, links, d, before, node) {
+    if !store::live_linked(nodes, links, d, Step::at(steps, at - 1).node, s.node) {
         return 23;
     }
     0
@@ -84,14 +78,12 @@ fn lengths_sum(steps: &[u64], first: usize, end: usize, len: u64) -> bool
     ensures { result ≡ eqb (sum (λ s. s.len) (drop first (steps_of end steps.now))) len }
 {
     let mut left = len;
-    let mut j = first;
-    while j < end {
-        let n = steps[2 * j + 1];
+    for j in first..end {
+        let n = Step::at(steps, j).len;
         if left < n {
             return false;
         }
         left -= n;
-        j += 1;
     }
     left == 0
 }
@@ -102,13 +94,11 @@ fn same_part(old_text: &[u8], r: Reading, off: usize, text: &[u8], s: Reading) -
     ensures { result ≡ same_spelling (take s.len (drop off (read old_text.now r))) (read text.now s) }
 {
     let len = s.len;
-    let mut k: usize = 0;
-    while k < len {
+    for k in 0..len {
         let a = affix::letter(old_text, r, off + k);
         if !letters::same_letter(a, affix::letter(text, s, k)) {
             return false;
         }
-        k += 1;
     }
     true
 }
@@ -130,9 +120,8 @@ fn same_walk(
 {
     let len = r.len;
     let mut off: usize = 0;
-    let mut j = first;
-    while j < end {
-        let s = affix::look_up(nodes, d.nodes, steps[2 * j]);
+    for j in first..end {
+        let s = affix::look_up(nodes, d.nodes, Step::at(steps, j).node.packed);
         let part = s.len;
         if len - off < part {
             return false;
@@ -141,7 +130,6 @@ fn same_walk(
             return false;
         }
         off += part;
-        j += 1;
     }
     off == len
 }
@@ -163,14 +151,15 @@ fn spells_key(
     requires { Readable old_nodes.now old_text.now c × Readable nodes.now text.now d × (2 * end ≤ length steps.now) }
     ensures { result ≡ (not (is_old_key (graph_of old_nodes.now old_text.now [] c) (rule id len 0 0)) || same_spelling (spell (graph_of old_nodes.now old_text.now [] c) (pack id 0)) (spell_walk (graph_of nodes.now text.now [] d) (map (λ s. s.node) (drop first (steps_of end steps.now))))) }
 {
-    let Found::At(i) = store::find_node(old_nodes, c.nodes, id) else {
+    let Some(i) = store::find_node(old_nodes, c.nodes, id) else {
         return true;
     };
-    if old_nodes[4 * i + 2] != len {
+    let old = Node::at(old_nodes, i);
+    if old.len != len {
         return true;
     }
     let r = Reading {
-        start: old_nodes[4 * i + 1] as usize,
+        start: old.start as usize,
         len: len as usize,
         direction: Handle::FORWARD,
     };
@@ -195,22 +184,21 @@ fn key_fault(
     requires i_bound { get_or rules.now (4 * i + 2) 0 + get_or rules.now (4 * i + 3) 0 ≤ u.steps }
     ensures { result ≡ (or_then (unless (lengths_sum (steps_of u.steps steps.now) (get_or (rules_of u.rules rules.now) i (rule 0 0 0 0))) 24 0 0) (unless (spells_key (graph_of old_nodes.now old_text.now [] c) (graph_of nodes.now text.now [] d) (steps_of u.steps steps.now) (get_or (rules_of u.rules rules.now) i (rule 0 0 0 0))) 25 0 0)).number }
 {
-    let id = rules[4 * i];
-    let len = rules[4 * i + 1];
-    let first = rules[4 * i + 2] as usize;
-    let end = first + rules[4 * i + 3] as usize;
-    if !lengths_sum(steps, first, end, len) {
+    let r = Rule::at(rules, i);
+    let first = r.first as usize;
+    let end = first + r.steps as usize;
+    if !lengths_sum(steps, first, end, r.len) {
         return 24;
     }
     if !spells_key(
-        old_nodes, old_text, c, nodes, text, d, steps, first, end, id, len,
+        old_nodes, old_text, c, nodes, text, d, steps, first, end, r.id, r.len,
     ) {
         return 25;
     }
     0
 }
 
-// 1 to 4, rule by rule: the first fault leaves both loops with its places.
+// 1 to 4, rule by rule. 01 names the form: one scan, left by label with the fault and its places.
 pub fn scan_rules(
     old_nodes: &[u64],
     old_text: &[u8],
@@ -233,18 +221,17 @@ pub fn scan_rules(
         if i == count {
             break 'scan fault(0, 0, 0);
         }
-        let first = rules[4 * i + 2] as usize;
-        let walk = rules[4 * i + 3] as usize;
+        let r = Rule::at(rules, i);
+        let first = r.first as usize;
+        let walk = r.steps as usize;
         if walk == 0 {
             break 'scan fault(20, i, 0);
         }
-        let mut j: usize = 0;
-        while j < walk {
+        for j in 0..walk {
             let n = step_fault(nodes, links, d, steps, first + j, j);
             if n != 0 {
                 break 'scan fault(n, i, j);
             }
-            j += 1;
         }
         let n = key_fault(old_nodes, old_text, c, nodes, text, d, rules, steps, u, i);
         if n != 0 {

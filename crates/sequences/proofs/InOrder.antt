@@ -16,11 +16,13 @@ use Rattle.kit.proofs.Meaning.{all_mem, all_of, none_of}
 use Rattle.handle.specs.declared.Handle.{Handle}
 use Rattle.handle.specs.Handle.{id_of, pack}
 use Rattle.handle.proofs.Handles.{id-pack}
-use Rattle.store.specs.Graph.{Node, Graph}
+use Rattle.store.specs.Graph.{Graph}
+use Rattle.store.specs.declared.Node.{Node}
 use Rattle.store.specs.Views.{len_of, live_node, largest}
 use Rattle.formed.specs.WellFormed.{good_graph, ids_once}
 use Rattle.formed.proofs.Says.{graph_says}
-use Rattle.events.specs.Events.{Rule, Rules, keyed, Event, append_all, rules_from}
+use Rattle.events.specs.Events.{Rules, keyed, Event, append_all, rules_from}
+use Rattle.events.specs.declared.Rule.{Rule}
 use Rattle.events.specs.WellFormed.{good_rule, good_step, good_table, has_step, keys_once, in_order}
 use Rattle.merging.specs.Merging.{is_forward, collapsed}
 use Rattle.merging.specs.Plan.{long_by, prefix_by, suffix_by}

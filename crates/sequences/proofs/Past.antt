@@ -13,7 +13,8 @@ use lib.ListN.{drop}
 use Rattle.kit.proofs.Bools.{tests, never}
 use Rattle.handle.specs.declared.Handle.{Handle}
 use Rattle.handle.specs.Handle.{id_of}
-use Rattle.store.specs.Graph.{Node, Graph}
+use Rattle.store.specs.Graph.{Graph}
+use Rattle.store.specs.declared.Node.{Node}
 use Rattle.store.specs.Views.{node_named, stored, len_of, live_node, largest}
 use Rattle.formed.specs.WellFormed.{ids_once}
 use Rattle.split.specs.Split.{split, split_nodes}

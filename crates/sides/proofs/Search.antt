@@ -6,7 +6,8 @@ use mathlib.Core.List.{List, [], ◌∷◌, ◌++◌}
 use lib.ListN.{drop}
 use Rattle.kit.specs.Loops.{keep, lines}
 use Rattle.handle.specs.declared.Handle.{Handle}
-use Rattle.store.specs.Graph.{Node, Graph, links_of}
+use Rattle.store.specs.Graph.{Graph, links_of}
+use Rattle.store.specs.declared.Node.{Node}
 use Rattle.store.specs.Views.{live_link}
 use Rattle.store.proofs.Fields.{link_at, back_link}
 use Rattle.sides.specs.Sides.{rising, next_above}

@@ -21,7 +21,9 @@ use Rattle.handle.specs.Edge.{edge, turned, same_ends}
 use Rattle.handle.proofs.Handles.{flip-flip, id-flip, same_handle_lem}
 use Rattle.handle.proofs.Edges.{turned-turned, same_ends_lem}
 use Rattle.store.specs.declared.Counts.{Counts}
-use Rattle.store.specs.Graph.{Node, Link, Graph, link, ends, graph_of}
+use Rattle.store.specs.Graph.{Graph, link, ends, graph_of}
+use Rattle.store.specs.declared.Node.{Node}
+use Rattle.store.specs.declared.Link.{Link}
 use Rattle.store.specs.Views.{joins, joins_live, live_link, live_linked, live_node, live_here, span}
 use Rattle.formed.specs.WellFormed.{is_mark, good_node, good_link, links_once, good_graph}
 use Rattle.sides.specs.Sides.{right_ends, right_of, left_of, left_in, same_left, bare}

@@ -1,7 +1,8 @@
 -- What the code's search keeps, the lowest so far over links that stand in no order; and one definition for both sides.
 use Rattle.std.specs.Prelude.{ℕ, Bool, cond, ◌&&◌, ◌||◌, List, [], ◌∷◌, eqb, ltb}
 use Rattle.handle.specs.declared.Handle.{Handle}
-use Rattle.store.specs.Graph.{Link, Graph}
+use Rattle.store.specs.Graph.{Graph}
+use Rattle.store.specs.declared.Link.{Link}
 use Rattle.sides.specs.Sides.{right_ends, right_of, left_ends, left_of}
 
 -- n where it is above a number and lower than the best so far, else that; 0 is none so far

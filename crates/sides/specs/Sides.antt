@@ -6,7 +6,8 @@ use Rattle.handle.specs.declared.Handle.{Handle}
 use Rattle.handle.specs.Handle.{flip, same_handle, before}
 use Rattle.handle.specs.Edge.{edge}
 use Rattle.store.specs.declared.Counts.{Counts}
-use Rattle.store.specs.Graph.{Link, Graph, handle, nodes_of, links_of}
+use Rattle.store.specs.Graph.{Graph, handle, nodes_of, links_of}
+use Rattle.store.specs.declared.Link.{Link}
 use Rattle.store.specs.Views.{live_link, live_linked}
 
 -- x put where it belongs in a rising list, or the list as it is where x stands in it

@@ -4,13 +4,13 @@
 ghost use Rattle.std.specs.Prelude.{◌*◌, ◌≤◌, ◌≡◌, false, cond, [], ◌∷◌, length};
 ghost use Rattle.kit.specs.Loops.{all};
 ghost use Rattle.handle.specs.Edge.{edge};
-ghost use Rattle.store.specs.Graph.{link, nodes_of};
+ghost use Rattle.store.specs.Graph.{nodes_of};
 ghost use Rattle.store.specs.Views.{live_node, live_linked};
 ghost use Rattle.sides.specs.Sides.{right_ends, right_of, left_ends, left_of, left_in, same_left, next_above, nth_of, bare};
 ghost use Rattle.sides.specs.Search.{lower, lowest, side_ends, side_of};
 
 use handle::Handle;
-use store::Counts;
+use store::{Counts, Link};
 
 // The lower of n, where it is above `above`, and the best so far; 0 is none so far.
 pub fn lower(above: u64, n: u64, best: u64) -> u64
@@ -36,22 +36,27 @@ fn offer(given: bool, u: Handle, above: u64, best: u64) -> u64
 }
 
 // Where a link leads from v: by its own form, and by its other one.
-pub fn lead(v: Handle, from: Handle, to: Handle, above: u64, best: u64) -> u64
-    ensures { result ≡ lowest above best (right_ends v (link (edge from to) 0)) }
+pub fn lead(v: Handle, l: Link, above: u64, best: u64) -> u64
+    ensures { result ≡ lowest above best (right_ends v l) }
 {
-    let near = to.flip();
-    let other = offer(near.same(v), from.flip(), above, best);
-    offer(from.same(v), to, above, other)
+    let near = l.to.flip();
+    let other = offer(near == v, l.from.flip(), above, best);
+    offer(l.from == v, l.to, above, other)
 }
 
 // On the left a link is read from its other end.
-fn lead_side(left: bool, v: Handle, from: Handle, to: Handle, above: u64, best: u64) -> u64
-    ensures { result ≡ lowest above best (side_ends left v (link (edge from to) 0)) }
+fn lead_side(left: bool, v: Handle, l: Link, above: u64, best: u64) -> u64
+    ensures { result ≡ lowest above best (side_ends left v l) }
 {
     if left {
-        return lead(v, to, from, above, best);
+        let turned = Link {
+            from: l.to,
+            to: l.from,
+            mark: l.mark,
+        };
+        return lead(v, turned, above, best);
     }
-    lead(v, from, to, above, best)
+    lead(v, l, above, best)
 }
 
 // From the last link to the first, as `lowest` goes. Only a link that leads to a lower neighbour is asked whether it is live.
@@ -60,17 +65,10 @@ fn next_side(nodes: &[u64], links: &[u64], c: Counts, left: bool, v: Handle, abo
     ensures { result ≡ next_above above (side_of left (bare nodes.now links.now c) v) }
 {
     let mut best: u64 = 0;
-    let mut i = c.links;
-    while 0 < i {
-        i -= 1;
-        let from = Handle {
-            packed: links[3 * i],
-        };
-        let to = Handle {
-            packed: links[3 * i + 1],
-        };
-        let found = lead_side(left, v, from, to, above, best);
-        if found != best && store::live_link(nodes, c.nodes, from, to, links[3 * i + 2]) {
+    for i in (0..c.links).rev() {
+        let l = Link::at(links, i);
+        let found = lead_side(left, v, l, above, best);
+        if found != best && store::live_link(nodes, c.nodes, l) {
             best = found;
         }
     }
@@ -170,21 +168,13 @@ fn among(nodes: &[u64], links: &[u64], c: Counts, given: bool, w: Handle, v: Han
 }
 
 // Whether each left neighbour that a link gives u is one of v.
-fn shared(
-    nodes: &[u64],
-    links: &[u64],
-    c: Counts,
-    u: Handle,
-    v: Handle,
-    from: Handle,
-    to: Handle,
-) -> bool
+fn shared(nodes: &[u64], links: &[u64], c: Counts, u: Handle, v: Handle, l: Link) -> bool
     requires { (4 * c.nodes ≤ length nodes.now) × (3 * c.links ≤ length links.now) }
-    ensures { result ≡ all (λ h. live_linked (bare nodes.now links.now c) (edge h v)) (left_ends u (link (edge from to) 0)) }
+    ensures { result ≡ all (λ h. live_linked (bare nodes.now links.now c) (edge h v)) (left_ends u l) }
 {
-    let near = from.flip();
-    among(nodes, links, c, to.same(u), from, v)
-        && among(nodes, links, c, near.same(u), to.flip(), v)
+    let near = l.from.flip();
+    among(nodes, links, c, l.to == u, l.from, v)
+        && among(nodes, links, c, near == u, l.to.flip(), v)
 }
 
 // Whether each live left neighbour of u is one of v. Only a link to one that v lacks is asked whether it is live.
@@ -192,21 +182,13 @@ pub fn left_in(nodes: &[u64], links: &[u64], c: Counts, u: Handle, v: Handle) ->
     requires { (4 * c.nodes ≤ length nodes.now) × (3 * c.links ≤ length links.now) }
     ensures { result ≡ left_in (bare nodes.now links.now c) u v }
 {
-    let count = c.links;
-    let mut i: usize = 0;
-    while i < count {
-        let from = Handle {
-            packed: links[3 * i],
-        };
-        let to = Handle {
-            packed: links[3 * i + 1],
-        };
-        if !shared(nodes, links, c, u, v, from, to) {
-            if store::live_link(nodes, c.nodes, from, to, links[3 * i + 2]) {
+    for i in 0..c.links {
+        let l = Link::at(links, i);
+        if !shared(nodes, links, c, u, v, l) {
+            if store::live_link(nodes, c.nodes, l) {
                 return false;
             }
         }
-        i += 1;
     }
     true
 }

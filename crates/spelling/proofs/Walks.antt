@@ -15,7 +15,8 @@ use Rattle.handle.specs.declared.Handle.{Handle}
 use Rattle.handle.specs.Handle.{id_of, dir_of, flip}
 use Rattle.handle.proofs.Handles.{id-flip, dir_flip, dir_small, flip-flip}
 use Rattle.store.specs.declared.Counts.{Counts}
-use Rattle.store.specs.Graph.{Node, Graph, graph_of, nodes_of}
+use Rattle.store.specs.Graph.{Graph, graph_of, nodes_of}
+use Rattle.store.specs.declared.Node.{Node}
 use Rattle.store.specs.Views.{named, node_named, span, spell}
 use Rattle.formed.specs.WellFormed.{good_node}
 use Rattle.formed.proofs.Says.{node_says}

@@ -2,7 +2,7 @@
 use mathlib.Core.Path.{◌≡◌, refl}
 use mathlib.Core.Bool.{true, false}
 use mathlib.Core.List.{[], ◌∷◌}
-use Rattle.kit.specs.declared.Found.TheVariants.{At, Nothing}
+use Rattle.std.specs.Prelude.{Some, None}
 use Rattle.letters.specs.Letters.{complement_of}
 use Rattle.handle.specs.Handle.{pack, flip}
 use Rattle.handle.specs.Edge.{edge}
@@ -22,7 +22,7 @@ stored : (all_stored g.nodes (pack 1 0 ∷ pack 3 1 ∷ []) ≡ true) × (all_st
 stored = (refl, refl)
 
 -- 23: 1+ 2+ 3+ has no link from 2+ to 3+; the same walk the other way round; a marked link is stored
-gaps : (first_gap g.links (pack 1 0 ∷ pack 2 0 ∷ pack 3 0 ∷ []) ≡ At 2) × (first_gap g.links (pack 3 1 ∷ pack 2 1 ∷ pack 1 1 ∷ []) ≡ At 1) × (first_gap g.links (pack 2 1 ∷ pack 3 0 ∷ []) ≡ Nothing) × (first_gap g.links [] ≡ Nothing)
+gaps : (first_gap g.links (pack 1 0 ∷ pack 2 0 ∷ pack 3 0 ∷ []) ≡ Some 2) × (first_gap g.links (pack 3 1 ∷ pack 2 1 ∷ pack 1 1 ∷ []) ≡ Some 1) × (first_gap g.links (pack 2 1 ∷ pack 3 0 ∷ []) ≡ None) × (first_gap g.links [] ≡ None)
 unfolding flip
 gaps = (refl, refl, refl, refl)
 

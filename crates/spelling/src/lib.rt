@@ -12,60 +12,49 @@ ghost use Rattle.spelling.specs.Spelling.{all_stored, first_gap, spell_walk};
 ghost use Rattle.spelling.specs.Measure.{within, walk_len};
 
 use handle::Handle;
-use kit::Found;
 use store::Counts;
 
 pub fn all_stored(nodes: &[u64], count: usize, walk: &[u64]) -> bool
     requires { 4 * count ≤ length nodes.now }
     ensures { result ≡ all_stored (nodes_of count nodes.now) (handles_of walk.now) }
 {
-    let mut i: usize = 0;
-    while i < walk.len() {
-        let h = Handle { packed: walk[i] };
-        let Found::At(_) = store::find_node(nodes, count, h.id()) else {
-            return false;
-        };
-        i += 1;
-    }
-    true
+    walk.iter()
+        .map(|step| Handle { packed: *step })
+        .all(|h| store::stored_from(nodes, count, 0, h.id()))
 }
 
 // The place of the first step that no stored link leads to from the one before.
-pub fn first_gap(links: &[u64], count: usize, walk: &[u64]) -> Found
+pub fn first_gap(links: &[u64], count: usize, walk: &[u64]) -> Option<usize>
     requires { 3 * count ≤ length links.now }
     ensures { result ≡ first_gap (links_of count links.now) (handles_of walk.now) }
 {
-    let mut i: usize = 1;
-    while i < walk.len() {
+    for i in 1..walk.len() {
         let u = Handle {
             packed: walk[i - 1],
         };
         let v = Handle { packed: walk[i] };
-        let Found::At(_) = store::find_link(links, count, u, v) else {
-            return Found::At(i);
+        let Some(_) = store::find_link(links, count, u, v) else {
+            return Some(i);
         };
-        i += 1;
     }
-    Found::Nothing
+    None
 }
 
 // How many letters the walk has, if that is at most `room`.
-pub fn spelled_len(nodes: &[u64], count: usize, walk: &[u64], room: usize) -> Found
+pub fn spelled_len(nodes: &[u64], count: usize, walk: &[u64], room: usize) -> Option<usize>
     requires { 4 * count ≤ length nodes.now }
     ensures { result ≡ within room (walk_len (nodes_of count nodes.now) (handles_of walk.now)) }
 {
     let mut n: usize = 0;
-    let mut i: usize = 0;
-    while i < walk.len() {
+    for i in 0..walk.len() {
         let h = Handle { packed: walk[i] };
         let len = store::node_len(nodes, count, h.id()) as usize;
         if room - n < len {
-            return Found::Nothing;
+            return None;
         }
         n += len;
-        i += 1;
     }
-    Found::At(n)
+    Some(n)
 }
 
 // Puts the letters of a step, as oriented, from `at` on; the place after them.
@@ -76,10 +65,8 @@ fn put_letters(nodes: &[u64], text: &[u8], c: Counts, step: u64, at: usize, out:
 {
     let r = affix::look_up(nodes, c.nodes, step);
     let len = r.len;
-    let mut i: usize = 0;
-    while i < len {
+    for i in 0..len {
         out[at + i] = affix::letter(text, r, i);
-        i += 1;
     }
     at + len
 }
@@ -91,9 +78,7 @@ pub fn write_spelling(nodes: &[u64], text: &[u8], c: Counts, walk: &[u64], out: 
     ensures { out.new ≡ spell_walk (graph_of nodes.now text.now [] c) (handles_of walk.now) ++ drop (length (spell_walk (graph_of nodes.now text.now [] c) (handles_of walk.now))) out.old }
 {
     let mut at: usize = 0;
-    let mut i: usize = 0;
-    while i < walk.len() {
+    for i in 0..walk.len() {
         at = put_letters(nodes, text, c, walk[i], at, out);
-        i += 1;
     }
 }

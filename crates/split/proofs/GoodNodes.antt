@@ -13,7 +13,8 @@ use Rattle.kit.proofs.Meaning.{all_append, all_map, all_mem, all_of}
 use Rattle.letters.specs.Letters.{is_letter}
 use Rattle.letters.specs.Sequences.{all_letters}
 use Rattle.handle.specs.Handle.{is_id, max_id}
-use Rattle.store.specs.Graph.{Node, node}
+use Rattle.store.specs.Graph.{node}
+use Rattle.store.specs.declared.Node.{Node}
 use Rattle.store.specs.Views.{named, stored, node_named, largest, span}
 use Rattle.formed.specs.WellFormed.{is_mark, good_node, ids_once}
 use Rattle.split.specs.Split.{cut, rest, split_nodes}

@@ -16,7 +16,9 @@ use Rattle.handle.specs.Handle.{pack, id_of, dir_of}
 use Rattle.handle.specs.Edge.{edge, written, same_ends, same_link}
 use Rattle.handle.proofs.Handles.{id-pack, dir_pack}
 use Rattle.handle.proofs.Edges.{same_ends_lem, ends-refl, written-written, same-written, same_link_lem}
-use Rattle.store.specs.Graph.{Node, Link, link, ends}
+use Rattle.store.specs.Graph.{link, ends}
+use Rattle.store.specs.declared.Node.{Node}
+use Rattle.store.specs.declared.Link.{Link}
 use Rattle.store.specs.Views.{stored, live_node, largest, joins, linked, live_link}
 use Rattle.formed.specs.WellFormed.{is_mark, good_link, links_once, ids_once}
 use Rattle.split.specs.Split.{move_ends, move_link, split_nodes, split_links}

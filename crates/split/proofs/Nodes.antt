@@ -9,12 +9,12 @@ use borrow.Author.Tests.{eq-eqb, ne_eqb, eqb-true}
 use lib.Dec.{eqb}
 use lib.ListN.{get_or, set, take, drop}
 use lib.Seq.{take-add, drop-drop}
-use Rattle.kit.specs.declared.Found.{Found}
-use Rattle.kit.specs.declared.Found.TheVariants.{At, Nothing}
+use Rattle.std.specs.Prelude.{Option, Some, None}
 use Rattle.kit.specs.Loops.{any}
 use Rattle.kit.proofs.Bools.{tests, never, same_test, and_both, and_true_l, and_true_r, not_true_false}
 use Rattle.kit.proofs.Meaning.{any_append, any-map, any_mem, any_some, none_mem, none_of, nothing_any, sum-append, distinct-first, distinct-rest}
-use Rattle.store.specs.Graph.{Node, node}
+use Rattle.store.specs.Graph.{node}
+use Rattle.store.specs.declared.Node.{Node}
 use Rattle.store.specs.Views.{named, find_node, stored, node_named, unmarked_node, live_node, largest, live_len, live_letters, span}
 use Rattle.formed.specs.WellFormed.{ids_once}
 use Rattle.split.specs.Split.{cut, rest, split_nodes}
@@ -64,9 +64,9 @@ only {r} (x ∷ rs) t (Memᴰ.tail m) =
 slot_of : (id : ℕ) (rs : List Node) → ids_once rs ≡ true → stored id rs ≡ true → (at : ℕ) × Slot id rs at
 slot_of id rs once t = by (find_node id rs) refl
   where
-    by : (o : Found) → find_node id rs ≡ o → (at : ℕ) × Slot id rs at
-    by (At i) e = (i, slot id i rs e once)
-    by Nothing e = never (sym t ∙ nothing_any (named id) 0 rs e)
+    by : (o : Option ℕ) → find_node id rs ≡ o → (at : ℕ) × Slot id rs at
+    by (Some i) e = (i, slot id i rs e once)
+    by None e = never (sym t ∙ nothing_any (named id) 0 rs e)
 
 -- a name of a node with letters is stored
 pub long-stored : (j : ℕ) (rs : List Node) → 0 < (node_named j rs).len → stored j rs ≡ true

@@ -8,11 +8,12 @@ use native.Mathlib.Omega.{arith}
 use borrow.Author.Tests.{eqb-true}
 use lib.Dec.{ltb}
 use lib.ListN.{length, get_or, set}
-use Rattle.kit.specs.declared.Found.TheVariants.{At}
+use Rattle.std.specs.Prelude.{Some}
 use Rattle.kit.proofs.Bools.{tests}
 use Rattle.kit.proofs.Meaning.{distinct-at}
 use Rattle.kit.proofs.Steps.{FoundAt, found_at}
-use Rattle.store.specs.Graph.{Node, nodes_of}
+use Rattle.store.specs.Graph.{nodes_of}
+use Rattle.store.specs.declared.Node.{Node}
 use Rattle.store.specs.Views.{named, find_node, node_named}
 use Rattle.formed.specs.WellFormed.{ids_once}
 use Rattle.store.proofs.Fields.{node_at, node_is}
@@ -25,7 +26,7 @@ pub record Slot (id : ℕ) (rs : List Node) (at : ℕ) : Type 0 where
   pub here : (d : Node) → named id (get_or rs at d) ≡ true
   pub others : (j : ℕ) → j < length rs → (j ≡ at → ⊥) → (d : Node) → named id (get_or rs j d) ≡ false
 
-module _ (id at : ℕ) (rs : List Node) (f : find_node id rs ≡ At at) (once : ids_once rs ≡ true) where
+module _ (id at : ℕ) (rs : List Node) (f : find_node id rs ≡ Some at) (once : ids_once rs ≡ true) where
   found : FoundAt (named id) 0 rs at
   found = found_at (named id) 0 at rs f
 
@@ -61,6 +62,6 @@ named-at id (suc at) (r ∷ rs) d s =
     }))
 
 -- as the code reads it
-pub node-read : (n id at : ℕ) (l : List ℕ) → at < n → find_node id (nodes_of n l) ≡ At at → ids_once (nodes_of n l) ≡ true → node_named id (nodes_of n l) ≡ node_at l at
+pub node-read : (n id at : ℕ) (l : List ℕ) → at < n → find_node id (nodes_of n l) ≡ Some at → ids_once (nodes_of n l) ≡ true → node_named id (nodes_of n l) ≡ node_at l at
 node-read n id at l h f once =
     named-at id at (nodes_of n l) (node_at l at) (slot id at (nodes_of n l) f once) ∙ node_is n at l h (node_at l at)

@@ -15,7 +15,9 @@ use Rattle.handle.specs.declared.Edge.{Edge}
 use Rattle.handle.specs.Handle.{max_id, pack, id_of}
 use Rattle.handle.specs.Edge.{edge}
 use Rattle.handle.proofs.Handles.{id-pack, dir_pack}
-use Rattle.store.specs.Graph.{Node, Link, Graph, link}
+use Rattle.store.specs.Graph.{Graph, link}
+use Rattle.store.specs.declared.Node.{Node}
+use Rattle.store.specs.declared.Link.{Link}
 use Rattle.store.specs.Views.{node_named, stored, len_of, live_node, live_letters, span, spell, linked, live_linked}
 use Rattle.formed.specs.WellFormed.{good_node, good_link, good_graph, ids_once, links_once}
 use Rattle.split.specs.Split.{fresh_id, move_ends, move_link, split, rest}

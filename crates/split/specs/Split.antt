@@ -4,7 +4,9 @@ use Rattle.handle.specs.declared.Handle.{Handle}
 use Rattle.handle.specs.declared.Edge.{Edge}
 use Rattle.handle.specs.Handle.{pack, flip, same_handle}
 use Rattle.handle.specs.Edge.{edge, written}
-use Rattle.store.specs.Graph.{Node, Link, Graph, node, link, ends}
+use Rattle.store.specs.Graph.{Graph, node, link, ends}
+use Rattle.store.specs.declared.Node.{Node}
+use Rattle.store.specs.declared.Link.{Link}
 use Rattle.store.specs.Views.{named, node_named, largest}
 
 -- the largest id ever used, plus 1

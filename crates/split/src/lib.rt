@@ -3,7 +3,6 @@
 
 ghost use Rattle.std.specs.Prelude.{◌≡◌, true, cond, [], ◌∷◌, ◌++◌, map, ◌+◌, ◌*◌, ◌^◌, ◌≤◌, ◌<◌, length, drop};
 ghost use Rattle.kit.specs.Layout.{encode};
-ghost use Rattle.kit.specs.declared.Found.TheVariants.{At};
 ghost use Rattle.handle.specs.Handle.{max_id, same_handle};
 ghost use Rattle.handle.specs.Edge.{edge, written};
 ghost use Rattle.store.specs.Graph.{node, link, handle, node_layout, link_layout, nodes_of, links_of};
@@ -12,12 +11,13 @@ ghost use Rattle.formed.specs.WellFormed.{ids_once};
 ghost use Rattle.split.specs.Split.{cut, move_ends, move_link, split_nodes, split_links};
 
 use handle::{Edge, Handle};
+use store::{Link, Node};
 
 // One end of a link: f where it is v.
 fn moved(h: Handle, v: Handle, f: Handle) -> Handle
     ensures { result ≡ cond (same_handle h v) f h }
 {
-    if h.same(v) {
+    if h == v {
         return f;
     }
     h
@@ -39,14 +39,12 @@ fn move_links(links: &mut [u64], count: usize, v: Handle, f: Handle)
     requires { 3 * count ≤ length links.old }
     ensures { links.new ≡ encode link_layout (map (move_link v f) (links_of count links.old)) ++ drop (3 * count) links.old }
 {
-    let mut i: usize = 0;
-    while i < count {
+    for i in 0..count {
         let e = move_ends(links[3 * i], links[3 * i + 1], v, f);
         let a = e.from;
         let b = e.to;
         links[3 * i] = a.packed;
         links[3 * i + 1] = b.packed;
-        i += 1;
     }
 }
 
@@ -55,9 +53,8 @@ pub fn push_link(links: &mut [u64], count: usize, from: Handle, to: Handle)
     requires { 3 * (count + 1) ≤ length links.old }
     ensures { links.new ≡ encode link_layout (links_of count links.old ++ (link (edge from to) 0 ∷ [])) ++ drop (3 * (count + 1)) links.old }
 {
-    links[3 * count] = from.packed;
-    links[3 * count + 1] = to.packed;
-    links[3 * count + 2] = 0;
+    let l = Link { from, to, mark: 0 };
+    l.put(links, count);
 }
 
 // Marked links move as well, and keep their marks; v to fresh is new and unmarked.
@@ -75,7 +72,7 @@ pub fn split_links(links: &mut [u64], count: usize, id: u64, fresh: u64)
 // The node `id`, which stands in the slot `at` and nowhere else, keeps its first k letters.
 fn cut_node(nodes: &mut [u64], count: usize, at: usize, id: u64, k: u64)
     requires count_in_bounds { 4 * count ≤ length nodes.old }
-    requires at_lt_count { (at < count) × (find_node id (nodes_of count nodes.old) ≡ At at) × (ids_once (nodes_of count nodes.old) ≡ true) }
+    requires at_lt_count { (at < count) × (find_node id (nodes_of count nodes.old) ≡ Some at) × (ids_once (nodes_of count nodes.old) ≡ true) }
     ensures { nodes.new ≡ encode node_layout (map (cut id k) (nodes_of count nodes.old)) ++ drop (4 * count) nodes.old }
 {
     nodes[4 * at + 2] = k;
@@ -86,27 +83,26 @@ pub fn push_node(nodes: &mut [u64], count: usize, id: u64, start: u64, len: u64,
     requires { 4 * (count + 1) ≤ length nodes.old }
     ensures { nodes.new ≡ encode node_layout (nodes_of count nodes.old ++ (node id start len mark ∷ [])) ++ drop (4 * (count + 1)) nodes.old }
 {
-    nodes[4 * count] = id;
-    nodes[4 * count + 1] = start;
-    nodes[4 * count + 2] = len;
-    nodes[4 * count + 3] = mark;
+    let r = Node {
+        id,
+        start,
+        len,
+        mark,
+    };
+    r.put(nodes, count);
 }
 
 // The node `id` keeps its first k letters, and the rest of it stands under the id `fresh`, at the end.
 pub fn split_nodes(nodes: &mut [u64], count: usize, at: usize, id: u64, fresh: u64, k: u64)
     requires count_in_bounds { 4 * (count + 1) ≤ length nodes.old }
-    requires at_lt_count { (at < count) × (find_node id (nodes_of count nodes.old) ≡ At at) × (ids_once (nodes_of count nodes.old) ≡ true) }
+    requires at_lt_count { (at < count) × (find_node id (nodes_of count nodes.old) ≡ Some at) × (ids_once (nodes_of count nodes.old) ≡ true) }
     requires fresh_value { fresh ≡ largest (nodes_of count nodes.old) + 1 }
     requires k_bound { (k ≤ (node_named id (nodes_of count nodes.old)).len) × ((node_named id (nodes_of count nodes.old)).start + k < 2 ^ 64) }
     ensures { nodes.new ≡ encode node_layout (split_nodes id k (nodes_of count nodes.old)) ++ drop (4 * (count + 1)) nodes.old }
 {
-    let start = nodes[4 * at + 1];
-    let len = nodes[4 * at + 2];
-    let mark = nodes[4 * at + 3];
-    let rest_start = start + k;
-    let rest_len = len - k;
+    let r = Node::at(nodes, at);
     cut_node(nodes, count, at, id, k);
-    push_node(nodes, count, fresh, rest_start, rest_len, mark);
+    push_node(nodes, count, fresh, r.start + k, r.len - k, r.mark);
 }
 
 // The node `id`, in the slot `at`, is split at k: one node and one link more, at the end.
@@ -121,7 +117,7 @@ pub fn split(
     k: u64,
 )
     requires node_count_in_bounds { (4 * (node_count + 1) ≤ length nodes.old) × (3 * (link_count + 1) ≤ length links.old) }
-    requires at_lt_node_count { (at < node_count) × (find_node id (nodes_of node_count nodes.old) ≡ At at) × (ids_once (nodes_of node_count nodes.old) ≡ true) }
+    requires at_lt_node_count { (at < node_count) × (find_node id (nodes_of node_count nodes.old) ≡ Some at) × (ids_once (nodes_of node_count nodes.old) ≡ true) }
     requires fresh_value { (fresh ≡ largest (nodes_of node_count nodes.old) + 1) × (fresh ≤ max_id) }
     requires k_bound { (k ≤ (node_named id (nodes_of node_count nodes.old)).len) × ((node_named id (nodes_of node_count nodes.old)).start + k < 2 ^ 64) }
     ensures nodes_after { nodes.new ≡ encode node_layout (split_nodes id k (nodes_of node_count nodes.old)) ++ drop (4 * (node_count + 1)) nodes.old }

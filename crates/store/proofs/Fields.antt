@@ -6,8 +6,10 @@ use native.Mathlib.Nat.{add-zero}
 use lib.ListN.{drop, get_or}
 use lib.Seq.{get_or-drop}
 use Rattle.kit.proofs.Laws.{left_cons, decode-at, length-decode}
-use Rattle.handle.specs.Edge.{edge}
-use Rattle.store.specs.Graph.{Node, Link, node, link, handle, node_layout, link_layout, nodes_of, links_of, unpack_node, unpack_link}
+use Rattle.store.specs.Graph.{node_layout, link_layout, nodes_of, links_of, unpack_node, unpack_link}
+use Rattle.store.specs.declared.Node.{Node}
+use Rattle.store.specs.declared.Link.{Link}
+pub use Rattle.store.specs.Graph.{node_at, link_at}
 use mathlib.Core.Bool.{true}
 use native.Mathlib.Omega.{arith}
 use borrow.Author.Tests.{leb-true}
@@ -16,13 +18,6 @@ use Rattle.kit.specs.Loops.{all}
 use Rattle.kit.proofs.Bools.{and_true_r}
 use Rattle.kit.proofs.Meaning.{all-at}
 use Rattle.handle.specs.Handle.{is_id, max_id}
-
--- the i-th record, read where the code reads it
-abbrev pub node_at : List ℕ → ℕ → Node
-node_at l i = node (get_or l (4 * i) 0) (get_or l (4 * i + 1) 0) (get_or l (4 * i + 2) 0) (get_or l (4 * i + 3) 0)
-
-abbrev pub link_at : List ℕ → ℕ → Link
-link_at l i = link (edge (handle (get_or l (3 * i) 0)) (handle (get_or l (3 * i + 1) 0))) (get_or l (3 * i + 2) 0)
 
 node_at_lem : (l : List ℕ) (i : ℕ) → unpack_node (drop (4 * i) l) ≡ node_at l i
 node_at_lem l i = simp (get_or-drop, add-zero)

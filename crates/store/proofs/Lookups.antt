@@ -7,12 +7,14 @@ use native.Mathlib.Nat.{sub-zero}
 use native.Mathlib.Omega.{arith}
 use borrow.Author.Tests.{eqb-true}
 use lib.ListN.{get_or}
-use Rattle.kit.specs.declared.Found.TheVariants.{At, Nothing}
+use Rattle.std.specs.Prelude.{Some, None}
 use Rattle.kit.proofs.Laws.{length-decode}
 use Rattle.kit.proofs.Steps.{found_at}
 use Rattle.kit.proofs.Meaning.{first_found, first_none, found-any, nothing_any, any_some, any_mem}
 use Rattle.handle.specs.declared.Edge.{Edge}
-use Rattle.store.specs.Graph.{Node, Link, node, node_layout, link_layout, nodes_of, links_of}
+use Rattle.store.specs.Graph.{node, node_layout, link_layout, nodes_of, links_of}
+use Rattle.store.specs.declared.Node.{Node}
+use Rattle.store.specs.declared.Link.{Link}
 use Rattle.store.specs.Views.{named, find_node, stored, node_named, joins, find_link, linked, live_here, live_node, unmarked_node}
 use Rattle.store.proofs.Fields.{node_at, link_at, node_is, link_is}
 use Rattle.kit.proofs.Bools.{and_true_l}
@@ -24,7 +26,7 @@ pub record NodeFound (n : ℕ) (l : List ℕ) (id i : ℕ) : Type 0 where
   pub named_so : get_or l (4 * i) 0 ≡ id
   pub is_stored : stored id (nodes_of n l) ≡ true
 
-pub node-found : (n : ℕ) (l : List ℕ) (id i : ℕ) → find_node id (nodes_of n l) ≡ At i → NodeFound n l id i
+pub node-found : (n : ℕ) (l : List ℕ) (id i : ℕ) → find_node id (nodes_of n l) ≡ Some i → NodeFound n l id i
 node-found n l id i e =
     let f = found_at (named id) 0 i (nodes_of n l) e in
     let h : i < n = omega (arith, f.high, length-decode node_layout n l) in
@@ -35,10 +37,10 @@ node-found n l id i e =
       is_stored = found-any (named id) 0 i (nodes_of n l) e;
     }
 
-pub node_nowhere : (id : ℕ) (rs : List Node) → find_node id rs ≡ Nothing → stored id rs ≡ false
+pub node_nowhere : (id : ℕ) (rs : List Node) → find_node id rs ≡ None → stored id rs ≡ false
 node_nowhere id rs e = nothing_any (named id) 0 rs e
 
-pub no_node : (id : ℕ) (rs : List Node) → find_node id rs ≡ Nothing → node_named id rs ≡ node 0 0 0 0
+pub no_node : (id : ℕ) (rs : List Node) → find_node id rs ≡ None → node_named id rs ≡ node 0 0 0 0
 no_node id rs e = first_none (named id) (node 0 0 0 0) 0 rs e
 
 -- slot i holds a link with these ends
@@ -47,7 +49,7 @@ pub record LinkFound (n : ℕ) (l : List ℕ) (e : Edge) (i : ℕ) : Type 0 wher
   pub joins_so : joins e (link_at l i) ≡ true
   pub is_linked : linked e (links_of n l) ≡ true
 
-pub link-found : (n : ℕ) (l : List ℕ) (e : Edge) (i : ℕ) → find_link e (links_of n l) ≡ At i → LinkFound n l e i
+pub link-found : (n : ℕ) (l : List ℕ) (e : Edge) (i : ℕ) → find_link e (links_of n l) ≡ Some i → LinkFound n l e i
 link-found n l e i q =
     let f = found_at (joins e) 0 i (links_of n l) q in
     let h : i < n = omega (arith, f.high, length-decode link_layout n l) in
@@ -57,7 +59,7 @@ link-found n l e i q =
       is_linked = found-any (joins e) 0 i (links_of n l) q;
     }
 
-pub link_nowhere : (e : Edge) (rs : List Link) → find_link e rs ≡ Nothing → linked e rs ≡ false
+pub link_nowhere : (e : Edge) (rs : List Link) → find_link e rs ≡ None → linked e rs ≡ false
 link_nowhere e rs q = nothing_any (joins e) 0 rs q
 
 -- a live node is stored

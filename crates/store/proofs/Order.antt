@@ -15,7 +15,8 @@ use Rattle.kit.proofs.Members.{of_keep}
 use Rattle.handle.specs.declared.Edge.{Edge}
 use Rattle.handle.specs.Edge.{same_ends, edge_before}
 use Rattle.handle.proofs.Edges.{ends-refl, before_irrefl, before_trans, before-total}
-use Rattle.store.specs.Graph.{Link, ends}
+use Rattle.store.specs.Graph.{ends}
+use Rattle.store.specs.declared.Link.{Link}
 use Rattle.store.specs.Order.{insert_link, written_order}
 
 -- no link is stored twice

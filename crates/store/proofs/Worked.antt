@@ -3,7 +3,7 @@ use Prim.Native.Nat.{ℕ}
 use mathlib.Core.Path.{◌≡◌, refl}
 use mathlib.Core.Bool.{false}
 use mathlib.Core.List.{List, [], ◌∷◌}
-use Rattle.kit.specs.declared.Found.TheVariants.{At, Nothing}
+use Rattle.std.specs.Prelude.{Some, None}
 use Rattle.letters.specs.Letters.{complement_of}
 use Rattle.handle.specs.Handle.{pack, flip}
 use Rattle.handle.specs.Edge.{edge}
@@ -26,7 +26,7 @@ counts n m k = record { nodes = n; letters = m; links = k }
 abbrev pub g : Graph
 g = graph_of nodes letters links (counts 3 7 4)
 
-lookups : (find_node 3 g.nodes ≡ At 2) × (find_node 4 g.nodes ≡ Nothing) × (find_link (edge (pack 2 1) (pack 1 1)) g.links ≡ At 0) × (find_link (edge (pack 2 0) (pack 1 0)) g.links ≡ Nothing)
+lookups : (find_node 3 g.nodes ≡ Some 2) × (find_node 4 g.nodes ≡ None) × (find_link (edge (pack 2 1) (pack 1 1)) g.links ≡ Some 0) × (find_link (edge (pack 2 0) (pack 1 0)) g.links ≡ None)
 unfolding flip
 lookups = (refl, refl, refl, refl)
 

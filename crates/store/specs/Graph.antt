@@ -1,28 +1,17 @@
 -- What is stored: 01 "Nodes, letters, links", fourth entry. Nodes and links lie in flat arrays of numbers, one record after
 -- another; a graph is the records that the counts say are in use.
-use Rattle.std.specs.Prelude.{ℕ, ◌≤◌, ◌≡◌, refl, List, [], ◌∷◌, length, take, get_or}
+use Rattle.std.specs.Prelude.{ℕ, ◌+◌, ◌*◌, ◌≤◌, ◌≡◌, refl, List, [], ◌∷◌, length, take, get_or}
 use Rattle.std.proofs.Common.{arith}
 use Rattle.kit.specs.Layout.{Layout, decode}
 use Rattle.handle.specs.declared.Handle.{Handle}
 use Rattle.handle.specs.declared.Edge.{Edge}
 use Rattle.handle.specs.Edge.{edge}
 use Rattle.store.specs.declared.Counts.{Counts}
-
--- a node's letters stand at start, len of them; mark 0: not deleted
-pub record Node : Type 0 where
-  pub id : ℕ
-  pub start : ℕ
-  pub len : ℕ
-  pub mark : ℕ
+use Rattle.store.specs.declared.Node.{Node}
+use Rattle.store.specs.declared.Link.{Link}
 
 abbrev pub node : ℕ → ℕ → ℕ → ℕ → Node
 node id start len mark = record { id = id; start = start; len = len; mark = mark }
-
--- a link between two oriented nodes; mark 0: not deleted
-pub record Link : Type 0 where
-  pub from : Handle
-  pub to : Handle
-  pub mark : ℕ
 
 abbrev pub link : Edge → ℕ → Link
 link e mark = record { from = e.from; to = e.to; mark = mark }
@@ -105,6 +94,13 @@ nodes_of n l = decode node_layout n l
 
 abbrev pub links_of : ℕ → List ℕ → List Link
 links_of n l = decode link_layout n l
+
+-- the i-th node and the i-th link
+abbrev pub node_at : List ℕ → ℕ → Node
+node_at l i = node (get_or l (4 * i) 0) (get_or l (4 * i + 1) 0) (get_or l (4 * i + 2) 0) (get_or l (4 * i + 3) 0)
+
+abbrev pub link_at : List ℕ → ℕ → Link
+link_at l i = link (edge (handle (get_or l (3 * i) 0)) (handle (get_or l (3 * i + 1) 0))) (get_or l (3 * i + 2) 0)
 
 -- the graph in three lent arrays, by the counts of what is in use
 abbrev pub graph_of : List ℕ → List ℕ → List ℕ → Counts → Graph

@@ -1,7 +1,8 @@
 -- Links in the order in which they are written: 01 "Reading and writing", output.
 use Rattle.std.specs.Prelude.{cond, List, [], ◌∷◌}
 use Rattle.handle.specs.Edge.{edge_before}
-use Rattle.store.specs.Graph.{Link, ends}
+use Rattle.store.specs.Graph.{ends}
+use Rattle.store.specs.declared.Link.{Link}
 
 abbrev pub insert_link : Link → List Link → List Link
 insert_link r [] = r ∷ []

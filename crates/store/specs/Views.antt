@@ -1,19 +1,20 @@
 -- Lookups and views: 01 "Nodes, letters, links". Each is over the graph's records and says nothing of how it is searched.
-use Rattle.std.specs.Prelude.{ℕ, max, Bool, cond, ◌&&◌, List, [], ◌∷◌, eqb, take, drop}
+use Rattle.std.specs.Prelude.{ℕ, max, Bool, cond, ◌&&◌, List, [], ◌∷◌, eqb, take, drop, Option}
 use Rattle.kit.specs.Loops.{find, first_or, any, sum}
-use Rattle.kit.specs.declared.Found.{Found}
 use Rattle.letters.specs.Sequences.{oriented, letter_at}
 use Rattle.handle.specs.declared.Handle.{Handle}
 use Rattle.handle.specs.Handle.{id_of, dir_of}
 use Rattle.handle.specs.declared.Edge.{Edge}
 use Rattle.handle.specs.Edge.{same_link}
-use Rattle.store.specs.Graph.{Node, Link, Graph, node, ends}
+use Rattle.store.specs.Graph.{Graph, node, ends}
+use Rattle.store.specs.declared.Node.{Node}
+use Rattle.store.specs.declared.Link.{Link}
 
 abbrev pub named : ℕ → Node → Bool
 named id r = eqb r.id id
 
 -- the slot of the node with an id
-abbrev pub find_node : ℕ → List Node → Found
+abbrev pub find_node : ℕ → List Node → Option ℕ
 find_node id rs = find (named id) rs
 
 -- a node with this id is stored, marked or not
@@ -65,7 +66,7 @@ abbrev pub joins : Edge → Link → Bool
 joins e r = same_link e (ends r)
 
 -- its slot, and whether it is stored, marked or not
-abbrev pub find_link : Edge → List Link → Found
+abbrev pub find_link : Edge → List Link → Option ℕ
 find_link e rs = find (joins e) rs
 
 abbrev pub linked : Edge → List Link → Bool

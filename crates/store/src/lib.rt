@@ -1,16 +1,16 @@
-// The graph in lent flat arrays: what is stored, lookups and views.
+// The graph in flat arrays, as C lends them: what is stored, lookups and views.
 // A node is four numbers (id, start, length, mark), a link three (from, to, mark).
 #![tactic(auto)]
 
-ghost use Rattle.std.specs.Prelude.{◌+◌, ◌*◌, ◌^◌, ◌≤◌, ◌<◌, ◌≡◌, true, length, take, drop};
+ghost use Rattle.std.specs.Prelude.{IfSome, ◌+◌, ◌*◌, ◌^◌, ◌≤◌, ◌<◌, ◌≡◌, true, length, take, drop};
 ghost use Rattle.kit.specs.Loops.{any};
 ghost use Rattle.letters.specs.Sequences.{letter_at};
 ghost use Rattle.handle.specs.Edge.{edge};
-ghost use Rattle.store.specs.Graph.{nodes_of, links_of, link};
+ghost use Rattle.std.proofs.lemmas.List.Edits.{sets};
+ghost use Rattle.store.specs.Graph.{node_at, link_at, nodes_of, links_of, link, ends, pack_node, pack_link};
 ghost use Rattle.store.specs.Views.{find_node, stored, node_named, live_node, largest, live_letters, find_link, live_link, joins_live};
 
 use handle::{Edge, Handle};
-use kit::Found;
 
 // How many nodes, letters and links are in use.
 #[repr(C)]
@@ -21,19 +21,96 @@ pub struct Counts {
     pub links: usize,
 }
 
-// The slot of the first node with this id.
-pub fn find_node(nodes: &[u64], count: usize, id: u64) -> Found
-    requires { 4 * count ≤ length nodes.now }
-    ensures { result ≡ find_node id (nodes_of count nodes.now) }
-{
-    let mut i: usize = 0;
-    while i < count {
-        if nodes[4 * i] == id {
-            return Found::At(i);
+// A node's letters stand at `start`, `len` of them; mark 0: not deleted.
+#[derive(Clone, Copy)]
+pub struct Node {
+    pub id: u64,
+    pub start: u64,
+    pub len: u64,
+    pub mark: u64,
+}
+
+impl Node {
+    pub fn at(nodes: &[u64], i: usize) -> Self
+        requires { 4 * i + 4 ≤ length nodes.now }
+        ensures { result ≡ node_at nodes.now i }
+    {
+        let k = 4 * i;
+        Self {
+            id: nodes[k],
+            start: nodes[k + 1],
+            len: nodes[k + 2],
+            mark: nodes[k + 3],
         }
-        i += 1;
     }
-    Found::Nothing
+
+    pub fn put(self, nodes: &mut [u64], i: usize)
+        requires { 4 * i + 4 ≤ length nodes.old }
+        ensures { nodes.new ≡ sets nodes.old (4 * i) (pack_node self) }
+    {
+        let k = 4 * i;
+        nodes[k] = self.id;
+        nodes[k + 1] = self.start;
+        nodes[k + 2] = self.len;
+        nodes[k + 3] = self.mark;
+    }
+}
+
+// A link between two oriented nodes; mark 0: not deleted.
+#[derive(Clone, Copy)]
+pub struct Link {
+    pub from: Handle,
+    pub to: Handle,
+    pub mark: u64,
+}
+
+impl Link {
+    pub fn at(links: &[u64], i: usize) -> Self
+        requires { 3 * i + 3 ≤ length links.now }
+        ensures { result ≡ link_at links.now i }
+    {
+        let k = 3 * i;
+        Self {
+            from: Handle { packed: links[k] },
+            to: Handle {
+                packed: links[k + 1],
+            },
+            mark: links[k + 2],
+        }
+    }
+
+    pub fn put(self, links: &mut [u64], i: usize)
+        requires { 3 * i + 3 ≤ length links.old }
+        ensures { links.new ≡ sets links.old (3 * i) (pack_link self) }
+    {
+        let k = 3 * i;
+        links[k] = self.from.packed;
+        links[k + 1] = self.to.packed;
+        links[k + 2] = self.mark;
+    }
+
+    pub fn ends(self) -> Edge
+        ensures { result ≡ ends self }
+    {
+        Edge {
+            from: self.from,
+            to: self.to,
+        }
+    }
+}
+
+// The slot of the first node with this id.
+pub fn find_node(nodes: &[u64], count: usize, id: u64) -> Option<usize>
+    requires { 4 * count ≤ length nodes.now }
+    ensures value { result ≡ find_node id (nodes_of count nodes.now) }
+    ensures within { IfSome result (λ i. i < count) }
+{
+    for i in 0..count {
+        if Node::at(nodes, i).id == id {
+            return Some(i);
+        }
+    }
+    None
 }
 
 // How many letters the node has; 0 where there is none.
@@ -41,10 +118,10 @@ pub fn node_len(nodes: &[u64], count: usize, id: u64) -> u64
     requires { 4 * count ≤ length nodes.now }
     ensures { result ≡ (node_named id (nodes_of count nodes.now)).len }
 {
-    let Found::At(i) = find_node(nodes, count, id) else {
+    let Some(i) = find_node(nodes, count, id) else {
         return 0;
     };
-    nodes[4 * i + 2]
+    Node::at(nodes, i).len
 }
 
 // Whether a node with this id is stored, from slot `start` on.
@@ -52,12 +129,10 @@ pub fn stored_from(nodes: &[u64], count: usize, start: usize, id: u64) -> bool
     requires { 4 * count ≤ length nodes.now }
     ensures { result ≡ stored id (drop start (nodes_of count nodes.now)) }
 {
-    let mut i = start;
-    while i < count {
-        if nodes[4 * i] == id {
+    for i in start..count {
+        if Node::at(nodes, i).id == id {
             return true;
         }
-        i += 1;
     }
     false
 }
@@ -66,12 +141,11 @@ pub fn live_node(nodes: &[u64], count: usize, id: u64) -> bool
     requires { 4 * count ≤ length nodes.now }
     ensures { result ≡ live_node id (nodes_of count nodes.now) }
 {
-    let mut i: usize = 0;
-    while i < count {
-        if nodes[4 * i] == id && nodes[4 * i + 3] == 0 {
+    for i in 0..count {
+        let r = Node::at(nodes, i);
+        if r.id == id && r.mark == 0 {
             return true;
         }
-        i += 1;
     }
     false
 }
@@ -82,12 +156,11 @@ pub fn largest_id(nodes: &[u64], count: usize) -> u64
     ensures { result ≡ largest (nodes_of count nodes.now) }
 {
     let mut best: u64 = 0;
-    let mut i: usize = 0;
-    while i < count {
-        if best < nodes[4 * i] {
-            best = nodes[4 * i];
+    for i in 0..count {
+        let r = Node::at(nodes, i);
+        if best < r.id {
+            best = r.id;
         }
-        i += 1;
     }
     best
 }
@@ -98,12 +171,11 @@ pub fn live_letters(nodes: &[u64], count: usize) -> u64
     ensures { result ≡ live_letters (nodes_of count nodes.now) }
 {
     let mut sum: u64 = 0;
-    let mut i: usize = 0;
-    while i < count {
-        if nodes[4 * i + 3] == 0 {
-            sum += nodes[4 * i + 2];
+    for i in 0..count {
+        let r = Node::at(nodes, i);
+        if r.mark == 0 {
+            sum += r.len;
         }
-        i += 1;
     }
     sum
 }
@@ -120,41 +192,25 @@ pub fn read_letter(text: &[u8], start: usize, len: usize, direction: u64, i: usi
 }
 
 // The slot of the first link with these ends, in whichever form they are given.
-pub fn find_link(links: &[u64], count: usize, u: Handle, v: Handle) -> Found
+pub fn find_link(links: &[u64], count: usize, u: Handle, v: Handle) -> Option<usize>
     requires { 3 * count ≤ length links.now }
     ensures { result ≡ find_link (edge u v) (links_of count links.now) }
 {
     let e = Edge { from: u, to: v };
-    let mut i: usize = 0;
-    while i < count {
-        let r = Edge {
-            from: Handle {
-                packed: links[3 * i],
-            },
-            to: Handle {
-                packed: links[3 * i + 1],
-            },
-        };
-        if e.same_link(r) {
-            return Found::At(i);
+    for i in 0..count {
+        if e.same_link(Link::at(links, i).ends()) {
+            return Some(i);
         }
-        i += 1;
     }
-    Found::Nothing
+    None
 }
 
-// Whether a link of these ends and this mark is live.
-pub fn live_link(nodes: &[u64], count: usize, from: Handle, to: Handle, mark: u64) -> bool
+// Whether a link is live: its own mark and its ends.
+pub fn live_link(nodes: &[u64], count: usize, l: Link) -> bool
     requires { 4 * count ≤ length nodes.now }
-    ensures { result ≡ live_link (nodes_of count nodes.now) (link (edge from to) mark) }
+    ensures { result ≡ live_link (nodes_of count nodes.now) l }
 {
-    if mark != 0 {
-        return false;
-    }
-    if !live_node(nodes, count, from.id()) {
-        return false;
-    }
-    live_node(nodes, count, to.id())
+    l.mark == 0 && live_node(nodes, count, l.from.id()) && live_node(nodes, count, l.to.id())
 }
 
 // Whether a live link with these ends is stored.
@@ -163,21 +219,11 @@ pub fn live_linked(nodes: &[u64], links: &[u64], c: Counts, u: Handle, v: Handle
     ensures { result ≡ any (joins_live (nodes_of c.nodes nodes.now) (edge u v)) (links_of c.links links.now) }
 {
     let e = Edge { from: u, to: v };
-    let count = c.links;
-    let mut i: usize = 0;
-    while i < count {
-        let from = Handle {
-            packed: links[3 * i],
-        };
-        let to = Handle {
-            packed: links[3 * i + 1],
-        };
-        if e.same_link(Edge { from, to }) {
-            if live_link(nodes, c.nodes, from, to, links[3 * i + 2]) {
-                return true;
-            }
+    for i in 0..c.links {
+        let l = Link::at(links, i);
+        if e.same_link(l.ends()) && live_link(nodes, c.nodes, l) {
+            return true;
         }
-        i += 1;
     }
     false
 }

@@ -16,7 +16,8 @@ use Rattle.handle.specs.Handle.{id_of, dir_of, same_handle}
 use Rattle.store.specs.declared.Counts.{Counts}
 use Rattle.store.specs.Graph.{Graph, handle, nodes_of, graph_of}
 use Rattle.store.specs.Views.{len_of}
-use Rattle.events.specs.Events.{Rule, Rules, rule, steps_of}
+use Rattle.events.specs.Events.{Rules, rule, steps_of}
+use Rattle.events.specs.declared.Rule.{Rule}
 use Rattle.rewriting.specs.Rewriting.{ruled, rule_under, nodes_on, transform_node}
 use Rattle.rewriting.specs.Measure.{towards}
 use Rattle.rewriting.proofs.Tables.{length-on, on-at}

@@ -22,7 +22,8 @@ use Rattle.formed.proofs.Says.{formed_room}
 use Rattle.affix.specs.Reading.{reading_of}
 use Rattle.affix.proofs.LookedUp.{formed_readable, inside, reads, length-read}
 use Rattle.events.specs.declared.Used.{Used}
-use Rattle.events.specs.Events.{Step, Rules, rules_of, list_of}
+use Rattle.events.specs.Events.{Rules, rules_of, list_of}
+use Rattle.events.specs.declared.Step.{Step}
 use Rattle.events.specs.WellFormed.{room_for_rules, good_rule, good_step, good_table, table_formed}
 use Rattle.events.proofs.Says.{table-room}
 use Rattle.rewriting.specs.Rewriting.{ruled, rule_under, transform_node}

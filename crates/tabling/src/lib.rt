@@ -17,9 +17,8 @@ ghost use Rattle.writing.specs.Marks.{walk_text};
 ghost use Rattle.writing.specs.Outcome.{outcome, writing};
 ghost use Rattle.writing.specs.TableText.{just_itself, table_line, old_segments, table_text};
 
-use events::Used;
+use events::{Rule, Step, Used};
 use handle::Handle;
-use kit::Found;
 use store::Counts;
 use writing::{Written, along, marks, put};
 
@@ -37,13 +36,8 @@ fn fill_walk(
     ensures { Filled out.old at (walk_text (nodes_on (steps_of total steps.now) (rule 0 0 first count))) out.new result }
 {
     let mut place = at;
-    let mut j: usize = 0;
-    while j < count {
-        let h = Handle {
-            packed: steps[2 * (first + j)],
-        };
-        place = marks::fill_step(out, place, h);
-        j += 1;
+    for j in 0..count {
+        place = marks::fill_step(out, place, Step::at(steps, first + j).node);
     }
     place
 }
@@ -53,13 +47,7 @@ fn just_itself(steps: &[u64], total: usize, first: usize, count: usize, h: Handl
     requires { (2 * total ≤ length steps.now) × (first + count ≤ total) }
     ensures { result ≡ just_itself h (nodes_on (steps_of total steps.now) (rule 0 0 first count)) }
 {
-    if count != 1 {
-        return false;
-    }
-    let k = Handle {
-        packed: steps[2 * first],
-    };
-    h.same(k)
+    count == 1 && h == Step::at(steps, first).node
 }
 
 // The row of a node of `len` letters that has a rule.
@@ -102,11 +90,12 @@ fn fill_old(
 {
     let id = h.id();
     let len = store::node_len(nodes, c.nodes, id);
-    let Found::At(i) = events::find_rule(rules, u.rules, id, len) else {
+    let Some(i) = events::find_rule(rules, u.rules, id, len) else {
         return at;
     };
-    let first = rules[4 * i + 2] as usize;
-    let count = rules[4 * i + 3] as usize;
+    let r = Rule::at(rules, i);
+    let first = r.first as usize;
+    let count = r.steps as usize;
     if just_itself(steps, u.steps, first, count, h) {
         return at;
     }

@@ -4,8 +4,8 @@ use mathlib.Core.Path.{◌≡◌, refl, sym, ap, ◌∙◌}
 use mathlib.Core.Bool.{Bool, true, false, cond, ◌||◌}
 use mathlib.Core.List.{List, [], ◌∷◌}
 use native.Mathlib.Omega.{arith}
-use borrow.Author.Tests.{eq-eqb, ne_eqb, eqb-true, eqb-false, lt-ltb, le-ltb, le-leb, lt-leb}
-use lib.Dec.{eqb, ltb, leb, leb-suc-suc}
+use borrow.Author.Tests.{eq-eqb, ne_eqb, eqb-true, eqb-false, lt-ltb, le-ltb, le-leb}
+use lib.Dec.{eqb, ltb, leb}
 use lib.ListN.{length, take, drop, get_or}
 use lib.Seq.{take-nil, drop-length, length-take-le, get_or-take}
 use Rattle.kit.specs.Loops.{any}
@@ -29,13 +29,13 @@ module _ (sep : ℕ) (bs : List ℕ) where
       let t = ne_eqb (get_or bs i 0) sep e in
       record { low = omega (arith, p.low); high = p.high; cut = rw (left_at bs i 0 h, z, t, p.cut) }
 
-  pub piece_none : (i : ℕ) → i ≡ length bs → Piece sep bs i i
+  pub piece_none : (i : ℕ) → i ≡ length bs → Piece sep bs i (length bs)
   piece_none i e =
       let n = eq-eqb (length bs) (length bs) refl in
       record { low = omega arith; high = omega arith; cut = rw (e, drop-length bs, n, take-nil) }
 
 -- there always is a piece
-pieces_some : (sep : ℕ) (bs : List ℕ) → 1 ≤ length (pieces sep bs)
+pub pieces_some : (sep : ℕ) (bs : List ℕ) → 1 ≤ length (pieces sep bs)
 pieces_some sep [] = omega arith
 pieces_some sep (b ∷ bs) = by (eqb b sep) (pieces sep bs) (pieces_some sep bs)
   where
@@ -83,16 +83,6 @@ module _ {sep : ℕ} {bs : List ℕ} {from r : ℕ} (p : Piece sep bs from r) wh
   nth_later k h e =
       let z : k ≡ suc (k - 1) = omega arith in
       rw (piece_more e) (ap (λ (j : ℕ). get_or (take (r - from) (drop from bs) ∷ pieces sep (drop (r + 1) bs)) j []) z)
-
-  -- whether there are n pieces, where n is more than 1
-  pub too_few : (n : ℕ) → 1 < n → r ≡ length bs → leb n (length (pieces sep (drop from bs))) ≡ false
-  too_few n h e = rw (piece_last e) (lt-leb n 1 h)
-
-  pub one_fewer : (n : ℕ) → 1 < n → (r ≡ length bs → ⊥) → leb n (length (pieces sep (drop from bs))) ≡ leb (n - 1) (length (pieces sep (drop (r + 1) bs)))
-  one_fewer n h e =
-      let z : n ≡ suc (n - 1) = omega arith in
-      let m : ℕ = length (pieces sep (drop (r + 1) bs)) in
-      rw (piece_more e) (ap (λ (j : ℕ). leb j (suc m)) z ∙ leb-suc-suc (n - 1) m)
 
   -- the separator stands there exactly when the piece does not go to the end
   pub has_separator : any (eqb sep) (drop from bs) ≡ ltb r (length bs)

@@ -1,16 +1,8 @@
--- The laws of the header: a line without bytes begins with nothing; a turn of the search for the first line that passes.
-use Prim.Native.Nat.{ℕ}
-use mathlib.Core.Path.{◌≡◌, refl}
+-- The laws of the header: a turn of the search for the first line that passes.
+use mathlib.Core.Path.{◌≡◌}
 use mathlib.Core.Bool.{Bool, true, false}
-use mathlib.Core.List.{List, [], ◌∷◌}
-use native.Mathlib.Omega.{arith}
-use lib.ListN.{length}
+use mathlib.Core.List.{List, ◌∷◌}
 use Rattle.kit.specs.Loops.{first_or}
-use Rattle.text.specs.Header.{begins_with_h}
-
-pub nothing_begins : (line : List ℕ) → length line ≡ 0 → false ≡ begins_with_h line
-nothing_begins [] h = refl
-nothing_begins (b ∷ line) h = absurd (omega arith)
 
 -- m is what the search is to find: the first element passes, or it does not
 module _ {A : Type 0} (d : A) (p : A → Bool) {a m : A} {rs rest : List A} (e : rs ≡ a ∷ rest) (i : first_or d p rs ≡ m) where

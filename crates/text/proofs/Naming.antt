@@ -6,7 +6,7 @@ use mathlib.Core.List.{List, [], ◌∷◌}
 use native.Mathlib.Omega.{arith}
 use borrow.Author.Tests.{ne_eqb, eq-eqb, le-leb, lt-leb, not-true}
 use lib.Dec.{eqb, leb}
-use lib.ListN.{length, drop, get_or, drop_of_length-le}
+use lib.ListN.{length, drop, get_or}
 use Rattle.kit.specs.Decimal.{decimal, is_digit, value_from, value}
 use Rattle.kit.specs.Loops.{all}
 use Rattle.kit.proofs.Bools.{tests, never, and_true_l, and_true_r, not_of}
@@ -26,40 +26,23 @@ id_from n bs = cond (all is_digit bs && leb (value_from n bs) max_id) (value_fro
 id_ill : (bs : List ℕ) → begins_well bs ≡ false → name_id bs ≡ 0
 id_ill bs t = rw t
 
--- how the reader begins: nothing stands there, a zero comes first, or all is left to do
-pub id-empty : (bs : List ℕ) → length bs ≡ 0 → name_id bs ≡ 0
-id-empty [] h = refl
-id-empty (b ∷ bs) h = absurd (omega arith)
-
+-- a zero comes first
 pub id_leading : (bs : List ℕ) → get_or bs 0 0 ≡ 48 → name_id bs ≡ 0
 id_leading [] h = refl
 id_leading (b ∷ bs) h = id_ill (b ∷ bs) (ap not (eq-eqb b 48 h))
 
-pub id_begins : (bs : List ℕ) → (length bs ≡ 0 → ⊥) → (get_or bs 0 0 ≡ 48 → ⊥) → id_from 0 bs ≡ name_id bs
-id_begins [] h k = absurd (h refl)
-id_begins (b ∷ bs) h k = rw (ne_eqb b 48 k)
-
-pub digit_low : (b : ℕ) → is_digit b ≡ true → 48 ≤ b
+digit_low : (b : ℕ) → is_digit b ≡ true → 48 ≤ b
 digit_low b t = let lo : leb 48 b ≡ true = and_true_l (leb 48 b) (leb b 57) t in omega (arith, tests)
 
-pub digit_high : (b : ℕ) → is_digit b ≡ true → b ≤ 57
-digit_high b t = let hi : leb b 57 ≡ true = and_true_r (leb 48 b) (leb b 57) t in omega (arith, tests)
-
--- a turn at place i, where what is left is what it was: no digit, a number that is too large, one digit more; and the end
+-- a turn at place i, where what is left is what it was: one digit more, a number that is too large
 module _ (bs : List ℕ) (i n : ℕ) (e : id_from n (drop i bs) ≡ name_id bs) where
   pub id_digit : i < length bs → is_digit (get_or bs i 0) ≡ true → id_from (n * 10 + (get_or bs i 0 - 48)) (drop (i + 1) bs) ≡ name_id bs
   id_digit h t = let p = left_at bs i 0 h in rw (p, t) at e
-
-  pub id_other : i < length bs → is_digit (get_or bs i 0) ≡ false → 0 ≡ name_id bs
-  id_other h t = let p = left_at bs i 0 h in rw (p, t) at e
 
   pub id_large : max_id < n → 0 ≡ name_id bs
   id_large h =
       let p : leb (value_from n (drop i bs)) max_id ≡ false = lt-leb (value_from n (drop i bs)) max_id (omega (arith, value_grows n (drop i bs))) in
       rw (p, and-false) at e
-
-  pub id_end : length bs ≤ i → n ≤ max_id → n ≡ name_id bs
-  id_end h k = let p = drop_of_length-le bs {i = i} h in rw (p, le-leb n max_id k) at e
 
 -- a name's parts
 module _ (bs : List ℕ) (t : is_name bs ≡ true) where

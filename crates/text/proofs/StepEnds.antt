@@ -33,7 +33,7 @@ module _ (bs : List ℕ) where
         cut = λ b. rw (left_at bs i 0 h, z, t) (ap (put_first b) (s.cut (get_or bs i 0)));
       }
 
-  pub rest_end : (i : ℕ) → i ≡ length bs → StepRest bs i i
+  pub rest_end : (i : ℕ) → i ≡ length bs → StepRest bs i (length bs)
   rest_end i e = record { low = omega arith; high = omega arith; cut = λ b. rw (e, drop-length bs, take-nil) }
 
   -- the byte at which the search begins is the step's first

@@ -1,12 +1,7 @@
 -- What a refused text gives: 01 "Numbers that say no".
 use Rattle.std.specs.Prelude.{ℕ, cond, List, [], ◌∷◌, eqb}
-use Rattle.text.specs.declared.Refusal.{Refusal}
 
--- 0 is no refusal
-abbrev pub refusal : ℕ → Refusal
-refusal number = record { number = number }
-
--- the first of two numbers that is not 0
+-- the first of two numbers that is not 0, which is no refusal
 abbrev pub or_number : ℕ → ℕ → ℕ
 or_number n m = cond (eqb n 0) m n
 

@@ -4,12 +4,10 @@ ghost use Rattle.text.specs.Header.{begins_with_h, header_of};
 
 use crate::pieces::piece_end;
 
-const NEWLINE: u8 = 10;
-
 fn begins_with_h(line: &[u8]) -> bool
     ensures { result ≡ begins_with_h line.now }
 {
-    line.len() != 0 && line[0] == 72
+    line.first() == Some(&b'H')
 }
 
 // The first line whose first byte is H, without its newline, as a part of the text; else the whole fallback.
@@ -18,7 +16,7 @@ pub fn header<'a>(text: &'a [u8], fallback: &'a [u8]) -> &'a [u8]
 {
     let mut at: usize = 0;
     loop {
-        let end = piece_end(text, at, NEWLINE);
+        let end = piece_end(text, at, b'\n');
         if begins_with_h(&text[at..end]) {
             return &text[at..end];
         }

@@ -5,9 +5,3 @@ pub mod header;
 pub mod names;
 pub mod pieces;
 pub mod steps;
-
-// What a text is refused for; 0 is nothing.
-#[derive(Clone, Copy)]
-pub struct Refusal {
-    pub number: u64,
-}

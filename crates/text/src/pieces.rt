@@ -4,23 +4,17 @@ ghost use Rattle.kit.specs.Loops.{any};
 ghost use Rattle.text.specs.Pieces.{fields_of, field, is_line};
 ghost use Rattle.text.specs.Search.{Piece};
 
-const TAB: u8 = 9;
-
-const RETURN: u8 = 13;
-
 // The place of the first separator at or after `from`, or the length.
 pub fn piece_end(bytes: &[u8], from: usize, sep: u8) -> usize
     requires { from ≤ length bytes.now }
     ensures { Piece sep bytes.now from result }
 {
-    let mut i = from;
-    while i < bytes.len() {
+    for i in from..bytes.len() {
         if bytes[i] == sep {
             return i;
         }
-        i += 1;
     }
-    i
+    bytes.len()
 }
 
 // The field k, counted from 0; an empty part where there are fewer.
@@ -28,16 +22,14 @@ pub fn field(line: &[u8], k: usize) -> &[u8]
     ensures { result.now ≡ field k line.now }
 {
     let mut from: usize = 0;
-    let mut left = k;
-    while 0 < left {
-        let to = piece_end(line, from, TAB);
+    for _ in 0..k {
+        let to = piece_end(line, from, b'\t');
         if to == line.len() {
             return &line[to..];
         }
         from = to + 1;
-        left -= 1;
     }
-    let to = piece_end(line, from, TAB);
+    let to = piece_end(line, from, b'\t');
     &line[from..to]
 }
 
@@ -46,14 +38,12 @@ pub fn has_fields(line: &[u8], n: usize) -> bool
     ensures { result ≡ leb n (length (fields_of line.now)) }
 {
     let mut from: usize = 0;
-    let mut left = n;
-    while 1 < left {
-        let to = piece_end(line, from, TAB);
+    for _ in 1..n {
+        let to = piece_end(line, from, b'\t');
         if to == line.len() {
             return false;
         }
         from = to + 1;
-        left -= 1;
     }
     true
 }
@@ -61,11 +51,11 @@ pub fn has_fields(line: &[u8], n: usize) -> bool
 pub fn is_line(line: &[u8], letter: u8) -> bool
     ensures { result ≡ is_line letter line.now }
 {
-    piece_end(line, 0, TAB) == 1 && line[0] == letter
+    piece_end(line, 0, b'\t') == 1 && line[0] == letter
 }
 
 pub fn has_return(line: &[u8]) -> bool
     ensures { result ≡ any (eqb 13) line.now }
 {
-    piece_end(line, 0, RETURN) < line.len()
+    piece_end(line, 0, b'\r') < line.len()
 }

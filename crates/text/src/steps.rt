@@ -1,5 +1,6 @@
 // Steps of paths and walks: their ends, what they are refused for, and the oriented nodes that they say.
 ghost use Rattle.std.specs.Prelude.{◌≡◌, ◌<◌, length};
+ghost use Rattle.kit.specs.Refusal.{number_of};
 ghost use Rattle.text.specs.Refusal.{first_number};
 ghost use Rattle.text.specs.Steps.{is_sign, sign_dir, is_arrow, arrow_dir, path_step_number, path_steps, path_handle};
 ghost use Rattle.text.specs.Steps.{walk_step_number, walk_steps, walk_handle};
@@ -8,19 +9,18 @@ ghost use Rattle.text.specs.StepEnd.{WalkStep};
 use crate::names::name_id;
 use crate::pieces::piece_end;
 use handle::Handle;
-
-const COMMA: u8 = 44;
+use kit::Refusal;
 
 pub fn is_sign(b: u8) -> bool
     ensures { result ≡ is_sign b }
 {
-    b == 43 || b == 45
+    b == b'+' || b == b'-'
 }
 
 pub fn sign_dir(b: u8) -> u64
     ensures { result ≡ sign_dir b }
 {
-    if b == 45 {
+    if b == b'-' {
         return Handle::REVERSE;
     }
     Handle::FORWARD
@@ -29,48 +29,44 @@ pub fn sign_dir(b: u8) -> u64
 fn is_arrow(b: u8) -> bool
     ensures { result ≡ is_arrow b }
 {
-    b == 62 || b == 60
+    b == b'>' || b == b'<'
 }
 
 fn arrow_dir(b: u8) -> u64
     ensures { result ≡ arrow_dir b }
 {
-    if b == 60 {
+    if b == b'<' {
         return Handle::REVERSE;
     }
     Handle::FORWARD
 }
 
 // The sign is the last byte: an empty step has none, a lone sign has no name.
-fn path_step_number(step: &[u8]) -> u64
-    ensures { result ≡ path_step_number step.now }
+fn check_path_step(step: &[u8]) -> Result<(), Refusal>
+    ensures { number_of result ≡ path_step_number step.now }
 {
-    if step.len() == 0 {
-        return 1;
+    let Some((&sign, name)) = step.split_last() else {
+        return Err(Refusal::Shape);
+    };
+    if !is_sign(sign) {
+        return Err(Refusal::Shape);
     }
-    let last = step.len() - 1;
-    if !is_sign(step[last]) {
-        return 1;
+    if name_id(name) == 0 {
+        return Err(Refusal::Name);
     }
-    if name_id(&step[..last]) == 0 {
-        return 2;
-    }
-    0
+    Ok(())
 }
 
 // What the first refused step of a path is refused for.
-pub fn path_number(field: &[u8]) -> u64
-    ensures { result ≡ first_number path_step_number (path_steps field.now) }
+pub fn check_path(field: &[u8]) -> Result<(), Refusal>
+    ensures { number_of result ≡ first_number path_step_number (path_steps field.now) }
 {
     let mut at: usize = 0;
     loop {
-        let end = piece_end(field, at, COMMA);
-        let number = path_step_number(&field[at..end]);
-        if number != 0 {
-            return number;
-        }
+        let end = piece_end(field, at, b',');
+        check_path_step(&field[at..end])?;
         if end == field.len() {
-            return 0;
+            return Ok(());
         }
         at = end + 1;
     }
@@ -80,12 +76,10 @@ pub fn path_number(field: &[u8]) -> u64
 pub fn path_handle(step: &[u8]) -> Handle
     ensures { result ≡ path_handle step.now }
 {
-    if step.len() == 0 {
+    let Some((&sign, name)) = step.split_last() else {
         return Handle::forward(0);
-    }
-    let last = step.len() - 1;
-    let id = name_id(&step[..last]);
-    Handle::pack(id, sign_dir(step[last]))
+    };
+    Handle::pack(name_id(name), sign_dir(sign))
 }
 
 // The place of the first arrow after `from`, or the length.
@@ -93,54 +87,50 @@ pub fn walk_step_end(bytes: &[u8], from: usize) -> usize
     requires { from < length bytes.now }
     ensures { WalkStep bytes.now from result }
 {
-    let mut i = from + 1;
-    while i < bytes.len() {
+    for i in from + 1..bytes.len() {
         if is_arrow(bytes[i]) {
             return i;
         }
-        i += 1;
     }
-    i
+    bytes.len()
 }
 
-fn walk_step_number(step: &[u8]) -> u64
-    ensures { result ≡ walk_step_number step.now }
+#[tactic(auto, using(crate::proofs::StepNumbers::no_name))]
+fn check_walk_step(step: &[u8]) -> Result<(), Refusal>
+    ensures { number_of result ≡ walk_step_number step.now }
 {
-    if step.len() < 2 {
-        return 1;
+    let Some((&arrow, name)) = step.split_first() else {
+        return Err(Refusal::Shape);
+    };
+    if !is_arrow(arrow) || name.is_empty() {
+        return Err(Refusal::Shape);
     }
-    if !is_arrow(step[0]) {
-        return 1;
+    if name_id(name) == 0 {
+        return Err(Refusal::Name);
     }
-    if name_id(&step[1..]) == 0 {
-        return 2;
-    }
-    0
+    Ok(())
 }
 
 // What the first refused step of a walk is refused for.
-pub fn walk_number(field: &[u8]) -> u64
-    ensures { result ≡ first_number walk_step_number (walk_steps field.now) }
+pub fn check_walk(field: &[u8]) -> Result<(), Refusal>
+    ensures { number_of result ≡ first_number walk_step_number (walk_steps field.now) }
 {
     let mut at: usize = 0;
+    // The place moves by what a step takes, so it is no count.
     while at < field.len() {
         let end = walk_step_end(field, at);
-        let number = walk_step_number(&field[at..end]);
-        if number != 0 {
-            return number;
-        }
+        check_walk_step(&field[at..end])?;
         at = end;
     }
-    0
+    Ok(())
 }
 
 // As path_handle.
 pub fn walk_handle(step: &[u8]) -> Handle
     ensures { result ≡ walk_handle step.now }
 {
-    if step.len() == 0 {
+    let Some((&arrow, name)) = step.split_first() else {
         return Handle::forward(0);
-    }
-    let id = name_id(&step[1..]);
-    Handle::pack(id, arrow_dir(step[0]))
+    };
+    Handle::pack(name_id(name), arrow_dir(arrow))
 }

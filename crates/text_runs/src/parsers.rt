@@ -4,9 +4,11 @@ ghost use Rattle.cases.specs.Answers.{Room};
 use cases::{faults, lend, output};
 use reading::Read;
 
-pub const READ_GFA: u64 = 0;
-
-pub const PARSE_HEADER: u64 = 1;
+#[derive(Clone, Copy, PartialEq, Eq)]
+pub enum Operation {
+    ReadGfa,
+    ParseHeader,
+}
 
 // A reading's numbers and its store after the call; the text is as it was given.
 fn put_read(
@@ -97,7 +99,7 @@ fn parse_header(
 
 pub fn run(
     rt: &impl Print,
-    operation: u64,
+    operation: Operation,
     given: &[u64],
     shape: &[u8],
     text: &mut [u8],
@@ -107,13 +109,12 @@ pub fn run(
     requires { Room at out.old }
     ensures { Room result out.new }
 {
-    let fault = faults::fault(given, shape);
-    if fault != faults::FINE {
+    if let Some(fault) = faults::first_fault(given, shape) {
         return output::put_fault(rt, out, at, fault);
     }
     let lines = lend::bytes(given, shape, 0, text);
-    if operation == READ_GFA {
-        return with_store(rt, given, shape, lines, out, at);
+    match operation {
+        Operation::ReadGfa => with_store(rt, given, shape, lines, out, at),
+        Operation::ParseHeader => parse_header(rt, given, shape, lines, out, at),
     }
-    parse_header(rt, given, shape, lines, out, at)
 }

@@ -4,11 +4,12 @@ ghost use Rattle.cases.specs.Answers.{Room};
 use cases::{faults, lend, output, parts};
 use writing::Written;
 
-pub const SUBGRAPH: u64 = 0;
-
-pub const TRANSFORMATIONS: u64 = 1;
-
-pub const PATHS: u64 = 2;
+#[derive(Clone, Copy, PartialEq, Eq)]
+pub enum Operation {
+    PrintActiveSubgraph,
+    PrintTransformations,
+    ParseAndTransformPaths,
+}
 
 // The room is the last item, k; the arrays before it are as they were given.
 fn put_written(
@@ -94,7 +95,7 @@ fn with_paths(
 
 pub fn run(
     rt: &impl Print,
-    operation: u64,
+    operation: Operation,
     given: &[u64],
     shape: &[u8],
     text: &mut [u8],
@@ -104,22 +105,26 @@ pub fn run(
     requires { Room at out.old }
     ensures { Room result out.new }
 {
-    let fault = faults::fault(given, shape);
-    if fault != faults::FINE {
+    if let Some(fault) = faults::first_fault(given, shape) {
         return output::put_fault(rt, out, at, fault);
     }
-    if operation == PATHS {
-        let lines = lend::bytes(given, shape, 0, text);
-        return with_paths(rt, given, shape, lines, out, at);
-    }
     let mut space = [0u8; 65536];
-    let letters = lend::bytes(given, shape, 1, text);
-    if operation == SUBGRAPH {
-        let room = lend::bytes(given, shape, 6, &mut space);
-        let r = print_active_subgraph(given, shape, letters, room);
-        return put_written(rt, out, at, r, room, given, shape, 6);
+    match operation {
+        Operation::PrintActiveSubgraph => {
+            let letters = lend::bytes(given, shape, 1, text);
+            let room = lend::bytes(given, shape, 6, &mut space);
+            let r = print_active_subgraph(given, shape, letters, room);
+            put_written(rt, out, at, r, room, given, shape, 6)
+        }
+        Operation::PrintTransformations => {
+            let letters = lend::bytes(given, shape, 1, text);
+            let room = lend::bytes(given, shape, 10, &mut space);
+            let r = print_transformations(given, shape, letters, room);
+            put_written(rt, out, at, r, room, given, shape, 10)
+        }
+        Operation::ParseAndTransformPaths => {
+            let lines = lend::bytes(given, shape, 0, text);
+            with_paths(rt, given, shape, lines, out, at)
+        }
     }
-    let room = lend::bytes(given, shape, 10, &mut space);
-    let r = print_transformations(given, shape, letters, room);
-    put_written(rt, out, at, r, room, given, shape, 10)
 }

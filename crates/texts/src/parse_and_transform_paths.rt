@@ -7,6 +7,7 @@ use events::Used;
 use store::Counts;
 use writing::Written;
 
+#[tactic(auto, unfolding(crate::specs::ParseAndTransformPaths::paths_outcome))]
 pub fn parse_and_transform_paths(
     text: &[u8],
     nodes: &[u64],
@@ -20,9 +21,11 @@ pub fn parse_and_transform_paths(
 ) -> Written
     ensures { outcome result out.new ≡ paths_outcome text.now nodes.now letters.now links.now c rules.now steps.now u out.old }
 {
-    let number = rewriting::old_number(nodes, letters, links, c, rules, steps, u);
-    if number != 0 {
-        return Written { number, len: 0 };
+    match rewriting::old_number(nodes, letters, links, c, rules, steps, u) {
+        Ok(()) => paths::print_paths(text, nodes, c, rules, steps, u, out),
+        Err(why) => Written {
+            number: why.number(),
+            len: 0,
+        },
     }
-    paths::print_paths(text, nodes, c, rules, steps, u, out)
 }

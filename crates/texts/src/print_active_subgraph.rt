@@ -6,6 +6,7 @@ ghost use Rattle.texts.specs.PrintActiveSubgraph.{subgraph_outcome};
 use store::Counts;
 use writing::Written;
 
+#[tactic(auto, unfolding(crate::specs::PrintActiveSubgraph::subgraph_outcome))]
 pub fn print_active_subgraph(
     nodes: &[u64],
     text: &[u8],
@@ -15,9 +16,11 @@ pub fn print_active_subgraph(
 ) -> Written
     ensures { outcome result out.new ≡ subgraph_outcome nodes.now text.now links.now c out.old }
 {
-    let number = formed::graph_number(nodes, text, links, c);
-    if number != 0 {
-        return Written { number, len: 0 };
+    match formed::graph_number(nodes, text, links, c) {
+        Ok(()) => writing::graph::print_graph(nodes, text, links, c, out),
+        Err(why) => Written {
+            number: why.number(),
+            len: 0,
+        },
     }
-    writing::graph::print_graph(nodes, text, links, c, out)
 }

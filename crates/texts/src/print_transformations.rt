@@ -7,6 +7,7 @@ use events::Used;
 use store::Counts;
 use writing::Written;
 
+#[tactic(auto, unfolding(crate::specs::PrintTransformations::table_outcome))]
 pub fn print_transformations(
     nodes: &[u64],
     text: &[u8],
@@ -19,9 +20,11 @@ pub fn print_transformations(
 ) -> Written
     ensures { outcome result out.new ≡ table_outcome nodes.now text.now links.now c rules.now steps.now u out.old }
 {
-    let number = rewriting::old_number(nodes, text, links, c, rules, steps, u);
-    if number != 0 {
-        return Written { number, len: 0 };
+    match rewriting::old_number(nodes, text, links, c, rules, steps, u) {
+        Ok(()) => tabling::print_table(nodes, c, rules, steps, u, out),
+        Err(why) => Written {
+            number: why.number(),
+            len: 0,
+        },
     }
-    tabling::print_table(nodes, c, rules, steps, u, out)
 }

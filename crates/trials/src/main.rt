@@ -10,9 +10,9 @@ use std::io;
 use std::rt::Files;
 use text::pieces::piece_end;
 
-const NEWLINE: u8 = 10;
+const NEWLINE: u8 = b'\n';
 
-const SPACE: u8 = 32;
+const SPACE: u8 = b' ';
 
 fn parted(b: u8) -> u8 {
     if b == SPACE {
@@ -28,13 +28,11 @@ fn cut(line: &[u8], words: &mut [u8]) -> usize
     if words.len() <= line.len() {
         return 0;
     }
-    let mut i: usize = 0;
-    while i < line.len() {
+    for i in 0..line.len() {
         words[i] = parted(line[i]);
-        i += 1;
     }
-    words[i] = 0;
-    i + 1
+    words[line.len()] = 0;
+    line.len() + 1
 }
 
 // Where the words begin: after `few `.

@@ -17,7 +17,9 @@ use Rattle.store.specs.declared.Counts.{Counts}
 use Rattle.store.specs.Graph.{Graph, handle, graph_of}
 use Rattle.store.specs.Views.{len_of}
 use Rattle.events.specs.declared.Used.{Used}
-use Rattle.events.specs.Events.{Rule, Step, Rules, rule, keyed, rules_of, steps_of, list_of}
+use Rattle.events.specs.Events.{Rules, rule, keyed, rules_of, steps_of, list_of}
+use Rattle.events.specs.declared.Rule.{Rule}
+use Rattle.events.specs.declared.Step.{Step}
 use Rattle.events.specs.WellFormed.{table_formed}
 use Rattle.rewriting.specs.Rewriting.{ruled, rule_under, nodes_on}
 use Rattle.rewriting.proofs.Tables.{steps-inside, length-on, on-at}

@@ -5,7 +5,9 @@ use Rattle.letters.specs.Letters.{complement_of, upper_of, is_base, is_letter}
 use Rattle.handle.specs.Handle.{pack, flip, before}
 use Rattle.handle.specs.Edge.{edge, written, edge_before}
 use Rattle.store.specs.Graph.{link}
-use Rattle.events.specs.Events.{Rule, Step, Rules, rule, step}
+use Rattle.events.specs.Events.{Rules, rule, step}
+use Rattle.events.specs.declared.Rule.{Rule}
+use Rattle.events.specs.declared.Step.{Step}
 use Rattle.scanning.specs.Rules.{verdict}
 use Rattle.scanning.proofs.Worked.{old, new, steps, both}
 use Rattle.verdict.specs.Conditions.{conditions_fault}

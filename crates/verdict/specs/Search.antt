@@ -1,5 +1,5 @@
 -- 28: where a rule's steps stand.
-use Rattle.events.specs.Events.{Rule}
+use Rattle.events.specs.declared.Rule.{Rule}
 use Rattle.verdict.specs.declared.repeats.Walk.{Walk}
 
 abbrev pub walk_at : Rule → Walk

@@ -11,9 +11,8 @@ ghost use Rattle.rewriting.specs.Rewriting.{rule_under, nodes_on};
 ghost use Rattle.verdict.specs.Conditions.{protected_ids, no_repeat, protected_fault};
 ghost use Rattle.verdict.specs.Search.{walk_at};
 
-use events::Used;
+use events::{Rule, Step, Used};
 use handle::Handle;
-use kit::Found;
 use scanning::Verdict;
 use store::Counts;
 
@@ -30,12 +29,13 @@ fn walk_of(oldnodes: &[u64], c: Counts, rules: &[u64], used: usize, id: u64) -> 
     ensures { result ≡ walk_at (rule_under id (len_of (graph_of oldnodes.now [] [] c) id) (rules_of used rules.now)) }
 {
     let len = store::node_len(oldnodes, c.nodes, id);
-    let Found::At(i) = events::find_rule(rules, used, id, len) else {
+    let Some(i) = events::find_rule(rules, used, id, len) else {
         return Walk { first: 0, count: 0 };
     };
+    let r = Rule::at(rules, i);
     Walk {
-        first: rules[4 * i + 2] as usize,
-        count: rules[4 * i + 3] as usize,
+        first: r.first as usize,
+        count: r.steps as usize,
     }
 }
 
@@ -44,15 +44,10 @@ fn in_walk(steps: &[u64], total: usize, first: usize, count: usize, id: u64) -> 
     requires { (2 * total ≤ length steps.now) × (first + count ≤ total) }
     ensures { result ≡ any (eqb id) (map id_of (nodes_on (steps_of total steps.now) (rule 0 0 first count))) }
 {
-    let mut j: usize = 0;
-    while j < count {
-        let h = Handle {
-            packed: steps[2 * (first + j)],
-        };
-        if id == h.id() {
+    for j in 0..count {
+        if id == Step::at(steps, first + j).node.id() {
             return true;
         }
-        j += 1;
     }
     false
 }
@@ -70,13 +65,11 @@ fn in_walks(
     requires { (4 * c.nodes ≤ length oldnodes.now) × (table_formed rules.now steps.now u ≡ true) }
     ensures { result ≡ any (eqb id) (lines (protected_ids (graph_of oldnodes.now [] [] c) (list_of rules.now steps.now u)) before.now) }
 {
-    let mut k: usize = 0;
-    while k < before.len() {
+    for k in 0..before.len() {
         let w = walk_of(oldnodes, c, rules, u.rules, before[k]);
         if in_walk(steps, u.steps, w.first, w.count, id) {
             return true;
         }
-        k += 1;
     }
     false
 }
@@ -97,19 +90,14 @@ fn repeats(
     let w = walk_of(oldnodes, c, rules, u.rules, id);
     let first = w.first;
     let count = w.count;
-    let mut j: usize = 0;
-    while j < count {
-        let h = Handle {
-            packed: steps[2 * (first + j)],
-        };
-        let node = h.id();
+    for j in 0..count {
+        let node = Step::at(steps, first + j).node.id();
         if in_walks(oldnodes, c, rules, steps, u, before, node) {
             return true;
         }
         if in_walk(steps, u.steps, first, j, node) {
             return true;
         }
-        j += 1;
     }
     false
 }
@@ -125,8 +113,7 @@ pub fn first_repeat(
     requires { (4 * c.nodes ≤ length oldnodes.now) × (table_formed rules.now steps.now u ≡ true) }
     ensures { result ≡ protected_fault (graph_of oldnodes.now [] [] c) (list_of rules.now steps.now u) 0 [] protected.now }
 {
-    let mut i: usize = 0;
-    while i < protected.len() {
+    for i in 0..protected.len() {
         if repeats(oldnodes, c, rules, steps, u, &protected[..i], protected[i]) {
             return Verdict {
                 number: 28,
@@ -134,7 +121,6 @@ pub fn first_repeat(
                 second: 0,
             };
         }
-        i += 1;
     }
     Verdict {
         number: 0,

@@ -1,7 +1,9 @@
 -- expand: 01 "Prefix, groups, collapse", last paragraph; its numbers are 13, 5, 12 and 7, in that order.
-use Rattle.std.specs.Prelude.{ℕ, ◌*◌, ◌≡◌, Bool, cond, not, ◌&&◌, List, ◌++◌, leb, length, drop}
+use Rattle.std.specs.Prelude.{ℕ, ◌*◌, ◌≡◌, Bool, cond, not, ◌&&◌, List, ◌++◌, leb, length, drop, Result, Ok, Err}
 use Rattle.std.proofs.Common.{sym, ◌∙◌}
 use Rattle.kit.specs.Layout.{encode}
+use Rattle.kit.specs.declared.Refusal.{Refusal}
+use Rattle.kit.specs.Refusal.{number}
 use Rattle.events.specs.declared.Used.{Used}
 use Rattle.events.specs.Events.{Rules, rule_layout, step_layout, list_of}
 use Rattle.events.specs.WellFormed.{events_formed, keys_once, in_order}
@@ -19,6 +21,11 @@ outcome r rules steps = record { answer = r; rules = rules; steps = steps }
 
 abbrev pub answer : ℕ → ℕ → ℕ → Expanded
 answer number rules steps = record { number = number; used = record { rules = rules; steps = steps } }
+
+-- a refusal tells no counts
+abbrev pub answered : Result Used Refusal → Expanded
+answered (Ok used) = answer 0 used.rules used.steps
+answered (Err why) = answer (number why) 0 0
 
 -- a refusal changes no lent number
 abbrev pub refused : ℕ → List ℕ → List ℕ → Outcome

@@ -1,8 +1,6 @@
 -- spell_walk: 01 "Prefix, groups, collapse", last sentence; its numbers are 13, 5, 6, 23 and 7, in that order.
-use Rattle.std.specs.Prelude.{ℕ, ◌≡◌, cond, not, List, ◌++◌, eqb, ltb, length, drop}
+use Rattle.std.specs.Prelude.{ℕ, ◌≡◌, cond, not, List, ◌++◌, eqb, ltb, length, drop, Option, Some, None}
 use Rattle.std.proofs.Common.{sym, ◌∙◌}
-use Rattle.kit.specs.declared.Found.{Found}
-use Rattle.kit.specs.declared.Found.TheVariants.{At, Nothing}
 use Rattle.store.specs.declared.Counts.{Counts}
 use Rattle.store.specs.Graph.{nodes_of, links_of, graph_of}
 use Rattle.formed.specs.WellFormed.{graph_number}
@@ -32,9 +30,9 @@ given letters out =
     (outcome (answer 0 0 (length letters)) (letters ++ drop (length letters) out))
 
 -- 23 at a gap, else the letters
-abbrev pub or_gap : Found → List ℕ → List ℕ → Outcome
-or_gap Nothing letters out = given letters out
-or_gap (At i) letters out = refused 23 i out
+abbrev pub or_gap : Option ℕ → List ℕ → List ℕ → Outcome
+or_gap None letters out = given letters out
+or_gap (Some i) letters out = refused 23 i out
 
 -- 13 or 5; 6 for any step; 23 with the place of the first gap; 7
 unfoldable pub spell_outcome : List ℕ → List ℕ → List ℕ → Counts → List ℕ → List ℕ → Outcome

@@ -1,6 +1,8 @@
 -- transform_walk: 01 "Prefix, groups, collapse", last paragraph; its numbers are 13, 5, 6 and 7, in that order.
-use Rattle.std.specs.Prelude.{ℕ, ◌≡◌, cond, not, List, eqb, ltb, length}
+use Rattle.std.specs.Prelude.{ℕ, ◌≡◌, cond, not, List, eqb, ltb, length, Result, Ok, Err}
 use Rattle.std.proofs.Common.{sym, ◌∙◌}
+use Rattle.kit.specs.declared.Refusal.{Refusal}
+use Rattle.kit.specs.Refusal.{number}
 use Rattle.store.specs.declared.Counts.{Counts}
 use Rattle.store.specs.Graph.{nodes_of, graph_of}
 use Rattle.affix.specs.Prefix.{handles_of}
@@ -21,6 +23,11 @@ outcome r out = record { answer = r; room = out }
 
 abbrev pub answer : ℕ → ℕ → Rewritten
 answer number n = record { number = number; length = n }
+
+-- a refusal tells no length
+abbrev pub answered : Result ℕ Refusal → Rewritten
+answered (Ok n) = answer 0 n
+answered (Err why) = answer (number why) 0
 
 -- a refusal changes no lent number
 abbrev pub refused : ℕ → List ℕ → Outcome

@@ -10,7 +10,9 @@ use Rattle.handle.specs.Handle.{pack}
 use Rattle.affix.specs.Prefix.{handles_of}
 use Rattle.groups.specs.Groups.{numbers}
 use Rattle.events.specs.declared.Used.{Used}
-use Rattle.events.specs.Events.{Rule, Step, Event, rule_layout, step_layout, unpack_rule, steps_of, step_to, walk_of, event, append_all}
+use Rattle.events.specs.Events.{Event, rule_layout, step_layout, unpack_rule, steps_of, step_to, walk_of, event, append_all}
+use Rattle.events.specs.declared.Rule.{Rule}
+use Rattle.events.specs.declared.Step.{Step}
 use Rattle.text.specs.Bytes.{bytes}
 use Rattle.text.specs.Steps.{path_handles}
 use Rattle.text.specs.Header.{header_of}

@@ -15,7 +15,9 @@ use Rattle.handle.specs.declared.Edge.{Edge}
 use Rattle.handle.specs.Handle.{id_of}
 use Rattle.handle.specs.Edge.{edge_before, same_ends}
 use Rattle.handle.proofs.Edges.{says_before, before_irrefl, before_trans}
-use Rattle.store.specs.Graph.{Node, Link, link, ends, links_of}
+use Rattle.store.specs.Graph.{link, ends, links_of}
+use Rattle.store.specs.declared.Node.{Node}
+use Rattle.store.specs.declared.Link.{Link}
 use Rattle.store.specs.Views.{live_node, live_link}
 use Rattle.store.proofs.Fields.{link_at, back_link}
 use Rattle.formed.specs.WellFormed.{links_once}

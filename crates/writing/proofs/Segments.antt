@@ -16,7 +16,8 @@ use Rattle.handle.specs.declared.Handle.{Handle}
 use Rattle.handle.specs.Handle.{max_id, is_id, pack, id_of, dir_of}
 use Rattle.handle.proofs.Handles.{id-pack, dir_pack}
 use Rattle.store.specs.declared.Counts.{Counts}
-use Rattle.store.specs.Graph.{Node, handle, nodes_of}
+use Rattle.store.specs.Graph.{handle, nodes_of}
+use Rattle.store.specs.declared.Node.{Node}
 use Rattle.store.specs.Views.{unmarked_node}
 use Rattle.store.proofs.Fields.{node_at, back_node}
 use Rattle.formed.proofs.Says.{good_ids}

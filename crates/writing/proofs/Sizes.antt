@@ -17,7 +17,8 @@ use Rattle.letters.proofs.Sequences.{length-oriented}
 use Rattle.handle.specs.declared.Handle.{Handle}
 use Rattle.handle.specs.Handle.{max_id, id_of, dir_of, pack}
 use Rattle.store.specs.declared.Counts.{Counts}
-use Rattle.store.specs.Graph.{Link, Graph, node_layout, link_layout, nodes_of, links_of, graph_of}
+use Rattle.store.specs.Graph.{Graph, node_layout, link_layout, nodes_of, links_of, graph_of}
+use Rattle.store.specs.declared.Link.{Link}
 use Rattle.store.specs.Views.{named, node_named, unmarked_node, live_here, live_node, live_link, span, spell}
 use Rattle.formed.specs.WellFormed.{good_node, well_formed}
 use Rattle.formed.proofs.Says.{node_says, formed_room, formed_good}

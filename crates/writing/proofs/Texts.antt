@@ -11,7 +11,8 @@ use Rattle.handle.specs.declared.Handle.{Handle}
 use Rattle.handle.specs.declared.Edge.{Edge}
 use Rattle.handle.specs.Handle.{id_of, dir_of}
 use Rattle.store.specs.declared.Counts.{Counts}
-use Rattle.store.specs.Graph.{Link, Graph, link, nodes_of, graph_of}
+use Rattle.store.specs.Graph.{Graph, link, nodes_of, graph_of}
+use Rattle.store.specs.declared.Link.{Link}
 use Rattle.store.specs.Views.{spell}
 use Rattle.affix.specs.declared.Reading.{Reading}
 use Rattle.affix.specs.Reading.{Readable, reading_of}

@@ -8,7 +8,9 @@ use Rattle.kit.specs.Loops.{keep}
 use Rattle.kit.proofs.Members.{in_keep, of_keep}
 use Rattle.handle.specs.declared.Handle.{Handle}
 use Rattle.handle.specs.Handle.{pack}
-use Rattle.store.specs.Graph.{Node, Link, Graph}
+use Rattle.store.specs.Graph.{Graph}
+use Rattle.store.specs.declared.Node.{Node}
+use Rattle.store.specs.declared.Link.{Link}
 use Rattle.store.specs.Views.{unmarked_node, live_link}
 use Rattle.store.proofs.Order.{Written, of_order, in_order_lem}
 use Rattle.formed.specs.WellFormed.{links_once}

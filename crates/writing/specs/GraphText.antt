@@ -4,7 +4,9 @@ use Rattle.kit.specs.Decimal.{decimal}
 use Rattle.kit.specs.Loops.{keep, lines}
 use Rattle.handle.specs.declared.Handle.{Handle}
 use Rattle.handle.specs.Handle.{id_of, pack}
-use Rattle.store.specs.Graph.{Node, Link, Graph}
+use Rattle.store.specs.Graph.{Graph}
+use Rattle.store.specs.declared.Node.{Node}
+use Rattle.store.specs.declared.Link.{Link}
 use Rattle.store.specs.Views.{unmarked_node, live_link, spell}
 use Rattle.sides.specs.Sides.{rising}
 use Rattle.text.specs.Bytes.{bytes}

@@ -3,7 +3,8 @@ use Rattle.std.specs.Prelude.{cond, ◌&&◌, ◌||◌, List, eqb}
 use Rattle.kit.specs.Loops.{first_or}
 use Rattle.handle.specs.declared.Edge.{Edge}
 use Rattle.handle.specs.Edge.{edge, edge_before}
-use Rattle.store.specs.Graph.{Link, link, ends, handle}
+use Rattle.store.specs.Graph.{link, ends, handle}
+use Rattle.store.specs.declared.Link.{Link}
 
 -- no link: no node has id 0
 abbrev pub no_ends : Edge

@@ -4,7 +4,8 @@ use Rattle.kit.specs.Decimal.{decimal}
 use Rattle.kit.specs.Loops.{lines}
 use Rattle.handle.specs.declared.Handle.{Handle}
 use Rattle.handle.specs.Handle.{id_of, same_handle, pack}
-use Rattle.store.specs.Graph.{Node, Graph}
+use Rattle.store.specs.Graph.{Graph}
+use Rattle.store.specs.declared.Node.{Node}
 use Rattle.store.specs.Views.{len_of}
 use Rattle.sides.specs.Sides.{rising}
 use Rattle.events.specs.Events.{Rules}

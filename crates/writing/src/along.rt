@@ -11,7 +11,7 @@ ghost use Rattle.writing.specs.GraphText.{live_segments, live_links};
 ghost use Rattle.writing.specs.Search.{next_after, sooner};
 
 use handle::{Edge, Handle};
-use store::Counts;
+use store::{Counts, Link, Node};
 
 // The packed number of the next live node, forward; 0 where there is none. From the last node to the first, as `lowest` goes.
 pub fn next_segment(nodes: &[u64], count: usize, above: u64) -> u64
@@ -20,11 +20,10 @@ pub fn next_segment(nodes: &[u64], count: usize, above: u64) -> u64
     ensures { result ≡ next_above above (live_segments (nodes_of count nodes.now)) }
 {
     let mut best: u64 = 0;
-    let mut i = count;
-    while 0 < i {
-        i -= 1;
-        if nodes[4 * i + 3] == 0 {
-            let h = Handle::forward(nodes[4 * i]);
+    for i in (0..count).rev() {
+        let r = Node::at(nodes, i);
+        if r.mark == 0 {
+            let h = Handle::forward(r.id);
             best = sides::lower(above, h.packed, best);
         }
     }
@@ -58,17 +57,10 @@ pub fn next_link(nodes: &[u64], links: &[u64], c: Counts, last: Edge) -> Edge
         from: Handle { packed: 0 },
         to: Handle { packed: 0 },
     };
-    let mut i = c.links;
-    while 0 < i {
-        i -= 1;
-        let from = Handle {
-            packed: links[3 * i],
-        };
-        let to = Handle {
-            packed: links[3 * i + 1],
-        };
-        let found = sooner(last, Edge { from, to }, best);
-        if !found.same(best) && store::live_link(nodes, c.nodes, from, to, links[3 * i + 2]) {
+    for i in (0..c.links).rev() {
+        let l = Link::at(links, i);
+        let found = sooner(last, l.ends(), best);
+        if found != best && store::live_link(nodes, c.nodes, l) {
             best = found;
         }
     }

@@ -6,7 +6,7 @@ pub mod graph;
 pub mod marks;
 pub mod put;
 
-// 01's number, and how many bytes were written.
+// 01's number, and how many bytes were written. C gets it.
 #[repr(C)]
 #[derive(Clone, Copy)]
 pub struct Written {

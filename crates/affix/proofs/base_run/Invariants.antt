@@ -1,5 +1,5 @@
 use mathlib.Core.List.{[]}
-use Prim.Native.Nat.{◌+◌, ◌-◌, ◌≤◌}
+use Prim.Native.Nat.{◌+◌}
 use mathlib.Core.Path.{◌≡◌}
 use lib.ListN.{length, drop}
 use Rattle.affix.specs.Reading.{read}
@@ -7,7 +7,4 @@ use Rattle.affix.specs.Prefix.{shared}
 use Rattle.affix.proofs.base_run.Given as goal
 
 abbrev pub invariant-loop-n : goal.invariant-loop-n
-invariant-loop-n l = (l.n ≤ l.len) × (l.n + length (shared (drop l.n (read l.text l.r)) []) ≡ length (shared (read l.text l.r) []))
-
-abbrev pub decreases-loop-n : goal.decreases-loop-n
-decreases-loop-n l = l.len - l.n
+invariant-loop-n l = l.n + length (shared (drop l.n (read l.text l.r)) []) ≡ length (shared (read l.text l.r) [])

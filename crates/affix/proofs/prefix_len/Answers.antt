@@ -46,7 +46,7 @@ pub loop-i-init : goal.loop-i-init
 loop-i-init c =
     let a = c.args in
     let e : run a.nodes.now a.text.now a.c.nodes c.look_up-first.result a.members.now (length a.members.now) ≡ length (shared (read a.text.now c.look_up-first.result) []) = rw (no_handle a.members.now (length a.members.now) (omega arith)) in
-    (omega arith, omega arith, c.base_run-n.ensures ∙ sym e)
+    (omega arith, c.base_run-n.ensures ∙ sym e)
 
 pub look_up-other-requires : goal.look_up-other-requires
 look_up-other-requires c = c.requires.0.node_room
@@ -55,15 +55,15 @@ pub same_run-n-requires : goal.same_run-n-requires
 same_run-n-requires c =
     let a = c.args in
     let p = inside a.nodes.now a.text.now a.c c.requires.0 (handle (get_or a.members.now 0 0)) _ c.look_up-first.ensures in
-    (p, inside a.nodes.now a.text.now a.c c.requires.0 (handle (get_or a.members.now (c.loop-i.i - 1) 0)) _ c.look_up-other.ensures, bounded a.nodes.now a.text.now a.c.nodes a.members.now c.look_up-first.result c.loop-i.i c.loop-i.n c.loop-i.invariant.2 p)
+    (p, inside a.nodes.now a.text.now a.c c.requires.0 (handle (get_or a.members.now (c.loop-i.i - 1) 0)) _ c.look_up-other.ensures, bounded a.nodes.now a.text.now a.c.nodes a.members.now c.look_up-first.result c.loop-i.i c.loop-i.n c.loop-i.invariant.1 p)
 
 pub loop-i-preserved : goal.loop-i-preserved
 loop-i-preserved c =
     let a = c.args in
-    (omega arith, omega arith, turn a.nodes.now a.text.now a.c.nodes a.members.now c.look_up-first.result c.loop-i.i c.loop-i.n _ _ (omega arith) (omega arith) c.loop-i.invariant.2 c.look_up-other.ensures c.same_run-n.ensures)
+    (omega arith, turn a.nodes.now a.text.now a.c.nodes a.members.now c.look_up-first.result c.loop-i.i c.loop-i.n _ _ (omega arith) (omega arith) c.loop-i.invariant.1 c.look_up-other.ensures c.same_run-n.ensures)
 
 pub returns : goal.returns
 returns c =
     let a = c.args in
     let e : c.loop-i.i ≡ 1 = omega arith in
-    c.loop-i.invariant.2 ∙ ap (run a.nodes.now a.text.now a.c.nodes c.look_up-first.result a.members.now) e ∙ whole a.nodes.now a.text.now a.c a.members.now c.look_up-first.result c.requires.0 (omega arith) c.look_up-first.ensures
+    c.loop-i.invariant.1 ∙ ap (run a.nodes.now a.text.now a.c.nodes c.look_up-first.result a.members.now) e ∙ whole a.nodes.now a.text.now a.c a.members.now c.look_up-first.result c.requires.0 (omega arith) c.look_up-first.ensures

@@ -17,7 +17,4 @@ abbrev pub run : List ℕ → List ℕ → ℕ → Reading → List ℕ → ℕ 
 run nodes text count first members i = length (shared (read text first) (map (spelled nodes text count) (drop i (handles_of members))))
 
 abbrev pub invariant-loop-i : goal.invariant-loop-i
-invariant-loop-i l = (1 ≤ l.i) × (l.i ≤ length l.members) × (l.n ≡ run l.nodes l.text l.count l.first l.members l.i)
-
-abbrev pub decreases-loop-i : goal.decreases-loop-i
-decreases-loop-i l = l.i
+invariant-loop-i l = (1 ≤ l.i) × (l.n ≡ run l.nodes l.text l.count l.first l.members l.i)

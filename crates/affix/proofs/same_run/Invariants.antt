@@ -1,11 +1,8 @@
-use Prim.Native.Nat.{◌+◌, ◌-◌, ◌≤◌}
+use Prim.Native.Nat.{◌+◌}
 use mathlib.Core.Path.{◌≡◌}
 use lib.ListN.{take, drop}
 use Rattle.affix.specs.Reading.{read, agree}
 use Rattle.affix.proofs.same_run.Given as goal
 
 abbrev pub invariant-loop-i : goal.invariant-loop-i
-invariant-loop-i l = (l.i ≤ l.bound) × (l.i + agree (drop l.i (take l.bound (read l.text l.r))) (drop l.i (read l.text l.s)) ≡ agree (take l.bound (read l.text l.r)) (read l.text l.s))
-
-abbrev pub decreases-loop-i : goal.decreases-loop-i
-decreases-loop-i l = l.bound - l.i
+invariant-loop-i l = l.i + agree (drop l.i (take l.bound (read l.text l.r))) (drop l.i (read l.text l.s)) ≡ agree (take l.bound (read l.text l.r)) (read l.text l.s)

@@ -4,6 +4,11 @@ use native.Mathlib.Omega.{arith}
 use borrow.Author.Tests.{eq-eqb, ne_eqb}
 use Rattle.kit.proofs.Laws.{left_none}
 use Rattle.store.specs.Graph.{node_layout}
+use lib.Dec.{eqb}
+use mathlib.Core.List.{[], ◌∷◌}
+use Rattle.handle.specs.Handle.{pack}
+use Rattle.store.specs.declared.Node.{Node}
+use Rattle.sides.specs.Search.{lowest}
 use Rattle.choosing.proofs.Along.{from_slot, turn-live, turn_dead, next-found}
 use Rattle.store.proofs.Fields.{id_high}
 use Rattle.choosing.proofs.next_scan.Goals as goal
@@ -11,23 +16,23 @@ use Rattle.choosing.proofs.next_scan.Goals as goal
 pub loop-i-init : goal.loop-i-init
 loop-i-init c =
     let a = c.args in
-    (omega arith, sym (rw (left_none node_layout a.count a.count a.nodes.now (omega arith))))
+    sym (rw (left_none node_layout a.count a.count a.nodes.now (omega arith)))
 
 pub lower_of_both-best-requires : goal.lower_of_both-best-requires
-lower_of_both-best-requires c = id_high c.args.count (c.loop-i.i - 1) c.args.nodes.now c.requires.nodes_value (omega arith)
+lower_of_both-best-requires c = rw c.at-r.ensures (id_high c.args.count (c.loop-i.i - 1) c.args.nodes.now c.requires.nodes_value (omega arith))
 
-pub loop-i-preserved-then-nodes-i-eq0 : goal.loop-i-preserved-then-nodes-i-eq0
-loop-i-preserved-then-nodes-i-eq0 c =
+pub loop-i-preserved-then-r-eq0 : goal.loop-i-preserved-then-r-eq0
+loop-i-preserved-then-r-eq0 c =
     let a = c.args in
-    (omega arith, c.lower_of_both-best.ensures ∙ turn-live a.above a.count a.nodes.now c.loop-i.i c.loop-i.best (omega arith) (omega arith) c.loop-i.invariant.1 (eq-eqb _ _ c.if-nodes-i-eq0.true))
+    c.lower_of_both-best.ensures ∙ ap (λ (r : Node). lowest a.above c.loop-i.best (pack r.id 0 ∷ pack r.id 1 ∷ [])) c.at-r.ensures ∙ turn-live a.above a.count a.nodes.now c.loop-i.i c.loop-i.best (omega arith) (omega arith) c.loop-i.invariant (ap (λ (r : Node). eqb r.mark 0) (sym c.at-r.ensures) ∙ eq-eqb _ _ c.if-r-eq0.true)
 
 pub loop-i-preserved : goal.loop-i-preserved
 loop-i-preserved c =
     let a = c.args in
-    (omega arith, turn_dead a.above a.count a.nodes.now c.loop-i.i c.loop-i.best (omega arith) (omega arith) c.loop-i.invariant.1 (ne_eqb _ _ c.if-nodes-i-eq0.false))
+    turn_dead a.above a.count a.nodes.now c.loop-i.i c.loop-i.best (omega arith) (omega arith) c.loop-i.invariant (ap (λ (r : Node). eqb r.mark 0) (sym c.at-r.ensures) ∙ ne_eqb _ _ c.if-r-eq0.false)
 
 pub returns : goal.returns
 returns c =
     let a = c.args in
     let z : c.loop-i.i ≡ 0 = omega arith in
-    c.loop-i.invariant.1 ∙ ap (from_slot a.above a.count a.nodes.now) z ∙ next-found a.above a.count a.nodes.now
+    c.loop-i.invariant ∙ ap (from_slot a.above a.count a.nodes.now) z ∙ next-found a.above a.count a.nodes.now

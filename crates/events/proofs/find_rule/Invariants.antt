@@ -1,4 +1,3 @@
-use Prim.Native.Nat.{◌-◌, ◌≤◌}
 use mathlib.Core.Path.{◌≡◌}
 use lib.ListN.{drop}
 use Rattle.events.specs.Events.{rules_of, keyed, find_rule}
@@ -6,7 +5,4 @@ use Rattle.kit.specs.Loops.{find_from}
 use Rattle.events.proofs.find_rule.Given as goal
 
 abbrev pub invariant-loop-i : goal.invariant-loop-i
-invariant-loop-i l = (l.i ≤ l.count) × (find_from (keyed l.id l.len) l.i (drop l.i (rules_of l.count l.rules)) ≡ find_rule l.id l.len (rules_of l.count l.rules))
-
-abbrev pub decreases-loop-i : goal.decreases-loop-i
-decreases-loop-i l = l.count - l.i
+invariant-loop-i l = find_from (keyed l.id l.len) l.i (drop l.i (rules_of l.count l.rules)) ≡ find_rule l.id l.len (rules_of l.count l.rules)

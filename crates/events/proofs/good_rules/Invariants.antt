@@ -1,4 +1,3 @@
-use Prim.Native.Nat.{◌-◌, ◌≤◌}
 use mathlib.Core.Path.{◌≡◌}
 use lib.ListN.{drop}
 use Rattle.events.specs.WellFormed.{good_rule}
@@ -7,7 +6,4 @@ use Rattle.kit.specs.Loops.{all}
 use Rattle.events.proofs.good_rules.Given as goal
 
 abbrev pub invariant-loop-i : goal.invariant-loop-i
-invariant-loop-i l = (l.i ≤ l.count) × (all (good_rule l.total) (drop l.i (rules_of l.count l.rules)) ≡ all (good_rule l.total) (rules_of l.count l.rules))
-
-abbrev pub decreases-loop-i : goal.decreases-loop-i
-decreases-loop-i l = l.count - l.i
+invariant-loop-i l = all (good_rule l.total) (drop l.i (rules_of l.count l.rules)) ≡ all (good_rule l.total) (rules_of l.count l.rules)

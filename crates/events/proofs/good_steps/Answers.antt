@@ -1,4 +1,4 @@
-use mathlib.Core.Path.{sym, ◌∙◌}
+use mathlib.Core.Path.{sym, ap, ◌∙◌}
 use native.Mathlib.Omega.{arith}
 use borrow.Author.Tests.{not-true, not-false}
 use Rattle.events.proofs.Fields.{left_step}
@@ -13,17 +13,17 @@ returns-then-not-is_handle c =
     let a = c.args in
     let i = c.loop-i.i in
     let more = left_step a.count i a.steps.now (omega arith) in
-    sym (all_fail good_step more (sym c.is_handle.ensures ∙ not-true _ c.if-not-is_handle.true-raw)) ∙ c.loop-i.invariant.1
+    sym (all_fail good_step more (ap good_step (sym c.at.ensures) ∙ sym c.is_handle.ensures ∙ not-true _ c.if-not-is_handle.true-raw)) ∙ c.loop-i.invariant
 
 pub loop-i-preserved : goal.loop-i-preserved
 loop-i-preserved c =
     let a = c.args in
     let i = c.loop-i.i in
     let more = left_step a.count i a.steps.now (omega arith) in
-    (omega arith, sym (all_pass good_step more (sym c.is_handle.ensures ∙ not-false _ c.if-not-is_handle.false-raw)) ∙ c.loop-i.invariant.1)
+    sym (all_pass good_step more (ap good_step (sym c.at.ensures) ∙ sym c.is_handle.ensures ∙ not-false _ c.if-not-is_handle.false-raw)) ∙ c.loop-i.invariant
 
 pub returns : goal.returns
 returns c =
     let a = c.args in
     let i = c.loop-i.i in
-    sym (all_end good_step (left_none step_layout a.count i a.steps.now (omega arith))) ∙ c.loop-i.invariant.1
+    sym (all_end good_step (left_none step_layout a.count i a.steps.now (omega arith))) ∙ c.loop-i.invariant

@@ -1,4 +1,3 @@
-use Prim.Native.Nat.{◌-◌, ◌≤◌}
 use mathlib.Core.Path.{◌≡◌}
 use lib.ListN.{drop}
 use Rattle.events.specs.WellFormed.{has_step}
@@ -7,7 +6,4 @@ use Rattle.kit.specs.Loops.{all}
 use Rattle.events.proofs.have_steps.Given as goal
 
 abbrev pub invariant-loop-i : goal.invariant-loop-i
-invariant-loop-i l = (l.i ≤ l.count) × (all has_step (drop l.i (rules_of l.count l.rules)) ≡ all has_step (rules_of l.count l.rules))
-
-abbrev pub decreases-loop-i : goal.decreases-loop-i
-decreases-loop-i l = l.count - l.i
+invariant-loop-i l = all has_step (drop l.i (rules_of l.count l.rules)) ≡ all has_step (rules_of l.count l.rules)

@@ -1,4 +1,4 @@
-use Prim.Native.Nat.{ℕ, ◌-◌, ◌≤◌}
+use Prim.Native.Nat.{ℕ}
 use mathlib.Core.Path.{◌≡◌}
 use mathlib.Core.Bool.{true}
 use Rattle.events.specs.declared.Used.{Used}
@@ -12,7 +12,4 @@ used n total = record { rules = n; steps = total }
 
 -- the loop does not see how many steps are in use, so this is said for each number that is well formed
 abbrev pub invariant-loop-i : goal.invariant-loop-i
-invariant-loop-i l = (l.i ≤ l.count) × ((total : ℕ) → table_formed l.rules l.steps (used l.count total) ≡ true → left l.rules (steps_of total l.steps) l.count l.i ≡ in_order (list_of l.rules l.steps (used l.count total)))
-
-abbrev pub decreases-loop-i : goal.decreases-loop-i
-decreases-loop-i l = l.count - l.i
+invariant-loop-i l = (total : ℕ) → table_formed l.rules l.steps (used l.count total) ≡ true → left l.rules (steps_of total l.steps) l.count l.i ≡ in_order (list_of l.rules l.steps (used l.count total))

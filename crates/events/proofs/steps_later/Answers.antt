@@ -7,7 +7,9 @@ use Rattle.kit.specs.Loops.{any}
 use Rattle.kit.proofs.Laws.{left_none}
 use Rattle.kit.proofs.Steps.{all_pass, all_fail, all_end}
 use Rattle.handle.specs.Handle.{id_of}
-use Rattle.events.specs.Events.{Rule, Step, rules_of, step_layout, keyed}
+use Rattle.events.specs.Events.{rules_of, step_layout, keyed}
+use Rattle.events.specs.declared.Rule.{Rule}
+use Rattle.events.specs.declared.Step.{Step}
 use Rattle.events.proofs.Fields.{step_at, left_step}
 use Rattle.events.proofs.steps_later.Goals as goal
 
@@ -19,8 +21,7 @@ pub returns-then-key_met : goal.returns-then-key_met
 returns-then-key_met c =
     let said : is_later (rules_of c.args.met c.args.rules.now) (step_at c.args.steps.now c.loop-j.j) ≡ not c.key_met.result =
     let a = c.args in
-    let s = step_at a.steps.now c.loop-j.j in
-    ap not (sym (c.key_met.ensures ∙ ap (λ (j : ℕ). any (keyed j s.len) (rules_of a.met a.rules.now)) c.id.ensures))
+    ap not (sym (c.key_met.ensures ∙ ap (λ (j : ℕ). any (keyed j c.at-s.result.len) (rules_of a.met a.rules.now)) c.id.ensures ∙ ap (λ (s : Step). any (keyed (id_of s.node) s.len) (rules_of a.met a.rules.now)) c.at-s.ensures))
     in
     let a = c.args in
     let more = left_step a.end c.loop-j.j a.steps.now (omega arith) in
@@ -30,8 +31,7 @@ pub loop-j-preserved : goal.loop-j-preserved
 loop-j-preserved c =
     let said : is_later (rules_of c.args.met c.args.rules.now) (step_at c.args.steps.now c.loop-j.j) ≡ not c.key_met.result =
     let a = c.args in
-    let s = step_at a.steps.now c.loop-j.j in
-    ap not (sym (c.key_met.ensures ∙ ap (λ (j : ℕ). any (keyed j s.len) (rules_of a.met a.rules.now)) c.id.ensures))
+    ap not (sym (c.key_met.ensures ∙ ap (λ (j : ℕ). any (keyed j c.at-s.result.len) (rules_of a.met a.rules.now)) c.id.ensures ∙ ap (λ (s : Step). any (keyed (id_of s.node) s.len) (rules_of a.met a.rules.now)) c.at-s.ensures))
     in
     let a = c.args in
     let more = left_step a.end c.loop-j.j a.steps.now (omega arith) in

@@ -1,4 +1,3 @@
-use Prim.Native.Nat.{◌-◌}
 use mathlib.Core.Path.{◌≡◌}
 use lib.ListN.{drop}
 use Rattle.events.specs.Events.{rules_of, steps_of}
@@ -7,6 +6,3 @@ use Rattle.events.proofs.steps_later.Given as goal
 
 abbrev pub invariant-loop-j : goal.invariant-loop-j
 invariant-loop-j l = steps_later (rules_of l.met l.rules) (drop l.j (steps_of l.end l.steps)) ≡ steps_later (rules_of l.met l.rules) (drop l.start (steps_of l.end l.steps))
-
-abbrev pub decreases-loop-j : goal.decreases-loop-j
-decreases-loop-j l = l.end - l.j

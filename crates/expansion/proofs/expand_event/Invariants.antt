@@ -1,11 +1,8 @@
-use Prim.Native.Nat.{◌+◌, ◌-◌, ◌*◌, ◌≤◌}
+use Prim.Native.Nat.{◌+◌, ◌*◌}
 use lib.ListN.{get_or}
 use Rattle.expansion.specs.Filling.{event_walk}
 use Rattle.expansion.proofs.Walking.{Going}
 use Rattle.expansion.proofs.expand_event.Given as goal
 
 abbrev pub invariant-loop-k : goal.invariant-loop-k
-invariant-loop-k l = (l.k ≤ get_or l.rules (4 * l.i + 3) 0) × Going l.table l.initial.out l.d (l.i + 1) (get_or l.table (4 * l.i + 2) 0) (event_walk l.rules l.steps l.i) l.out l.next l.k
-
-abbrev pub decreases-loop-k : goal.decreases-loop-k
-decreases-loop-k l = l.n - l.k
+invariant-loop-k l = Going l.table l.initial.out l.d (l.i + 1) (get_or l.table (4 * l.i + 2) 0) (event_walk l.rules l.steps l.i) l.out l.next l.k

@@ -12,10 +12,13 @@ loop-i-init c =
     let a = c.args in
     (measuring a.rules.now a.steps.now a.c a.lens.now c.requires.1, table-room a.rules.now a.steps.now a.c c.requires.0, refl)
 
+pub at-r-requires : goal.at-r-requires
+at-r-requires c = omega (arith, c.loop-i.invariant.1.rule_room)
+
 pub walk_len-m-requires : goal.walk_len-m-requires
 walk_len-m-requires c =
     let a = c.args in
-    let j = c.loop-i.i - 1 in (
+    let j = c.loop-i.i - 1 in rw c.at-r.ensures (
       measure_asks a.rules.now a.steps.now a.c c.loop-i.lens c.loop-i.total c.loop-i.i j c.loop-i.invariant.0 (omega arith) c.loop-i.invariant.1.rule_room c.loop-i.invariant.1.step_room,
       table-inside a.rules.now a.steps.now a.c c.requires.0 j (omega arith),
     )
@@ -28,7 +31,7 @@ loop-i-preserved c =
     let a = c.args in
     let j = c.loop-i.i - 1 in
     let x = c.walk_len-m.result in (
-      rw c.capped-total.ensures (measure_leaves a.rules.now a.steps.now a.c c.loop-i.lens c.loop-i.total c.loop-i.i j c.loop-i.invariant.0 (omega arith) x c.walk_len-m.ensures),
+      rw c.capped-total.ensures (measure_leaves a.rules.now a.steps.now a.c c.loop-i.lens c.loop-i.total c.loop-i.i j c.loop-i.invariant.0 (omega arith) x (rw c.at-r.ensures at c.walk_len-m.ensures)),
       c.loop-i.invariant.1,
       length-set c.loop-i.lens j x ∙ c.loop-i.invariant.2,
     )

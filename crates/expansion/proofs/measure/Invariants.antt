@@ -6,6 +6,3 @@ use Rattle.expansion.proofs.measure.Given as goal
 
 abbrev pub invariant-loop-i : goal.invariant-loop-i
 invariant-loop-i l = Measuring l.rules l.steps l.c l.lens l.total l.i × RuleRoom l.rules l.steps l.c × (length l.lens ≡ length l.initial.lens)
-
-abbrev pub decreases-loop-i : goal.decreases-loop-i
-decreases-loop-i l = l.i

@@ -1,4 +1,4 @@
-use mathlib.Core.Path.{sym, ◌∙◌}
+use mathlib.Core.Path.{sym, ap, ◌∙◌}
 use native.Mathlib.Omega.{arith}
 use Rattle.events.proofs.Fields.{left-rule}
 use Rattle.events.specs.Events.{rule_layout, keyed}
@@ -11,14 +11,14 @@ returns-then-same_key c =
     let a = c.args in
     let i = c.loop-i.i in
     let more = left-rule a.count i a.rules.now (omega arith) in
-    sym (find_hit (keyed a.id a.len) i more (sym c.same_key.ensures ∙ c.if-same_key.true)) ∙ c.loop-i.invariant
+    sym (find_hit (keyed a.id a.len) i more (ap (keyed a.id a.len) (sym c.at-r.ensures) ∙ sym c.same_key.ensures ∙ c.if-same_key.true)) ∙ c.loop-i.invariant
 
 pub loop-i-preserved : goal.loop-i-preserved
 loop-i-preserved c =
     let a = c.args in
     let i = c.loop-i.i in
     let more = left-rule a.count i a.rules.now (omega arith) in
-    sym (find_miss (keyed a.id a.len) i more (sym c.same_key.ensures ∙ c.if-same_key.false)) ∙ c.loop-i.invariant
+    sym (find_miss (keyed a.id a.len) i more (ap (keyed a.id a.len) (sym c.at-r.ensures) ∙ sym c.same_key.ensures ∙ c.if-same_key.false)) ∙ c.loop-i.invariant
 
 pub returns : goal.returns
 returns c =

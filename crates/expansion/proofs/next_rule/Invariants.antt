@@ -1,4 +1,3 @@
-use Prim.Native.Nat.{◌-◌}
 use mathlib.Core.Path.{◌≡◌}
 use lib.ListN.{drop}
 use Rattle.events.specs.Events.{rules_of, keyed}
@@ -7,6 +6,3 @@ use Rattle.expansion.proofs.next_rule.Given as goal
 
 abbrev pub invariant-loop-i : goal.invariant-loop-i
 invariant-loop-i l = find_from (keyed l.id l.len) l.i (drop l.i (rules_of l.count l.rules)) ≡ find_from (keyed l.id l.len) l.start (drop l.start (rules_of l.count l.rules))
-
-abbrev pub decreases-loop-i : goal.decreases-loop-i
-decreases-loop-i l = l.count - l.i

@@ -1,4 +1,4 @@
-use Prim.Native.Nat.{◌+◌, ◌-◌, ◌≤◌}
+use Prim.Native.Nat.{◌+◌, ◌≤◌}
 use mathlib.Core.Path.{◌≡◌}
 use lib.ListN.{length, drop}
 use Rattle.expansion.specs.Filling.{part_of, walk_in}
@@ -6,7 +6,4 @@ use Rattle.expansion.specs.Table.{capped}
 use Rattle.expansion.proofs.walk_len.Given as goal
 
 abbrev pub invariant-loop-k : goal.invariant-loop-k
-invariant-loop-k l = (l.k ≤ l.n) × (l.total ≤ 262145) × (capped (l.total + length (walk_in l.rules l.steps l.c l.ahead (drop l.k (part_of l.steps l.c l.first l.n)))) ≡ capped (length (walk_in l.rules l.steps l.c l.ahead (part_of l.steps l.c l.first l.n))))
-
-abbrev pub decreases-loop-k : goal.decreases-loop-k
-decreases-loop-k l = l.n - l.k
+invariant-loop-k l = (l.total ≤ 262145) × (capped (l.total + length (walk_in l.rules l.steps l.c l.ahead (drop l.k (part_of l.steps l.c l.first l.n)))) ≡ capped (length (walk_in l.rules l.steps l.c l.ahead (part_of l.steps l.c l.first l.n))))

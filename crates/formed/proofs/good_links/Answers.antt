@@ -1,4 +1,4 @@
-use mathlib.Core.Path.{sym, ◌∙◌}
+use mathlib.Core.Path.{sym, ap, ◌∙◌}
 use native.Mathlib.Omega.{arith}
 use borrow.Author.Tests.{not-true, not-false}
 use Rattle.store.proofs.Fields.{left-link}
@@ -14,7 +14,7 @@ returns-then-not-good_link c =
     let i = c.loop-i.i in
     let p = good_link (nodes_of a.c.nodes a.nodes.now) in
     let more = left-link a.c.links i a.links.now (omega arith) in
-    sym (all_fail p more (sym c.good_link.ensures ∙ not-true _ c.if-not-good_link.true-raw)) ∙ c.loop-i.invariant.1
+    sym (all_fail p more (ap p (sym c.at.ensures) ∙ sym c.good_link.ensures ∙ not-true _ c.if-not-good_link.true-raw)) ∙ c.loop-i.invariant
 
 pub loop-i-preserved : goal.loop-i-preserved
 loop-i-preserved c =
@@ -22,10 +22,10 @@ loop-i-preserved c =
     let i = c.loop-i.i in
     let p = good_link (nodes_of a.c.nodes a.nodes.now) in
     let more = left-link a.c.links i a.links.now (omega arith) in
-    (omega arith, sym (all_pass p more (sym c.good_link.ensures ∙ not-false _ c.if-not-good_link.false-raw)) ∙ c.loop-i.invariant.1)
+    sym (all_pass p more (ap p (sym c.at.ensures) ∙ sym c.good_link.ensures ∙ not-false _ c.if-not-good_link.false-raw)) ∙ c.loop-i.invariant
 
 pub returns : goal.returns
 returns c =
     let a = c.args in
     let i = c.loop-i.i in
-    sym (all_end (good_link (nodes_of a.c.nodes a.nodes.now)) (left_none link_layout a.c.links i a.links.now (omega arith))) ∙ c.loop-i.invariant.1
+    sym (all_end (good_link (nodes_of a.c.nodes a.nodes.now)) (left_none link_layout a.c.links i a.links.now (omega arith))) ∙ c.loop-i.invariant

@@ -1,4 +1,3 @@
-use Prim.Native.Nat.{◌-◌, ◌≤◌}
 use mathlib.Core.Path.{◌≡◌}
 use lib.ListN.{drop}
 use Rattle.formed.specs.WellFormed.{good_link}
@@ -7,7 +6,4 @@ use Rattle.kit.specs.Loops.{all}
 use Rattle.formed.proofs.good_links.Given as goal
 
 abbrev pub invariant-loop-i : goal.invariant-loop-i
-invariant-loop-i l = (l.i ≤ l.count) × (all (good_link (nodes_of l.c.nodes l.nodes)) (drop l.i (links_of l.c.links l.links)) ≡ all (good_link (nodes_of l.c.nodes l.nodes)) (links_of l.c.links l.links))
-
-abbrev pub decreases-loop-i : goal.decreases-loop-i
-decreases-loop-i l = l.count - l.i
+invariant-loop-i l = all (good_link (nodes_of l.c.nodes l.nodes)) (drop l.i (links_of l.c.links l.links)) ≡ all (good_link (nodes_of l.c.nodes l.nodes)) (links_of l.c.links l.links)

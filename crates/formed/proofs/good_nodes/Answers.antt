@@ -1,4 +1,4 @@
-use mathlib.Core.Path.{sym, ◌∙◌}
+use mathlib.Core.Path.{sym, ap, ◌∙◌}
 use native.Mathlib.Omega.{arith}
 use borrow.Author.Tests.{not-true, not-false}
 use Rattle.store.proofs.Fields.{left-node}
@@ -14,7 +14,7 @@ returns-then-not-good_node c =
     let i = c.loop-i.i in
     let p = good_node a.text.now in
     let more = left-node a.count i a.nodes.now (omega arith) in
-    sym (all_fail p more (sym c.good_node.ensures ∙ not-true _ c.if-not-good_node.true-raw)) ∙ c.loop-i.invariant.1
+    sym (all_fail p more (ap p (sym c.at.ensures) ∙ sym c.good_node.ensures ∙ not-true _ c.if-not-good_node.true-raw)) ∙ c.loop-i.invariant
 
 pub loop-i-preserved : goal.loop-i-preserved
 loop-i-preserved c =
@@ -22,10 +22,10 @@ loop-i-preserved c =
     let i = c.loop-i.i in
     let p = good_node a.text.now in
     let more = left-node a.count i a.nodes.now (omega arith) in
-    (omega arith, sym (all_pass p more (sym c.good_node.ensures ∙ not-false _ c.if-not-good_node.false-raw)) ∙ c.loop-i.invariant.1)
+    sym (all_pass p more (ap p (sym c.at.ensures) ∙ sym c.good_node.ensures ∙ not-false _ c.if-not-good_node.false-raw)) ∙ c.loop-i.invariant
 
 pub returns : goal.returns
 returns c =
     let a = c.args in
     let i = c.loop-i.i in
-    sym (all_end (good_node a.text.now) (left_none node_layout a.count i a.nodes.now (omega arith))) ∙ c.loop-i.invariant.1
+    sym (all_end (good_node a.text.now) (left_none node_layout a.count i a.nodes.now (omega arith))) ∙ c.loop-i.invariant

@@ -1,4 +1,3 @@
-use Prim.Native.Nat.{◌-◌}
 use mathlib.Core.Path.{◌≡◌}
 use lib.ListN.{drop}
 use Rattle.store.specs.Graph.{ends, links_of}
@@ -8,6 +7,3 @@ use Rattle.formed.proofs.link_again.Given as goal
 
 abbrev pub invariant-loop-i : goal.invariant-loop-i
 invariant-loop-i l = any (λ s. same_ends l.e (ends s)) (drop l.i (links_of l.count l.links)) ≡ any (λ s. same_ends l.e (ends s)) (drop l.start (links_of l.count l.links))
-
-abbrev pub decreases-loop-i : goal.decreases-loop-i
-decreases-loop-i l = l.count - l.i

@@ -1,4 +1,3 @@
-use Prim.Native.Nat.{◌-◌, ◌≤◌}
 use mathlib.Core.Path.{◌≡◌}
 use lib.ListN.{drop}
 use Rattle.formed.specs.WellFormed.{links_once}
@@ -6,7 +5,4 @@ use Rattle.store.specs.Graph.{links_of}
 use Rattle.formed.proofs.links_once.Given as goal
 
 abbrev pub invariant-loop-i : goal.invariant-loop-i
-invariant-loop-i l = (l.i ≤ l.count) × (links_once (drop l.i (links_of l.count l.links)) ≡ links_once (links_of l.count l.links))
-
-abbrev pub decreases-loop-i : goal.decreases-loop-i
-decreases-loop-i l = l.count - l.i
+invariant-loop-i l = links_once (drop l.i (links_of l.count l.links)) ≡ links_once (links_of l.count l.links)

@@ -1,4 +1,3 @@
-use Prim.Native.Nat.{◌-◌, ◌≤◌}
 use mathlib.Core.Path.{◌≡◌}
 use lib.ListN.{drop}
 use Rattle.formed.specs.WellFormed.{unmarked_link}
@@ -7,7 +6,4 @@ use Rattle.kit.specs.Loops.{all}
 use Rattle.formed.proofs.unmarked_links.Given as goal
 
 abbrev pub invariant-loop-i : goal.invariant-loop-i
-invariant-loop-i l = (l.i ≤ l.count) × (all unmarked_link (drop l.i (links_of l.count l.links)) ≡ all unmarked_link (links_of l.count l.links))
-
-abbrev pub decreases-loop-i : goal.decreases-loop-i
-decreases-loop-i l = l.count - l.i
+invariant-loop-i l = all unmarked_link (drop l.i (links_of l.count l.links)) ≡ all unmarked_link (links_of l.count l.links)

@@ -1,4 +1,3 @@
-use Prim.Native.Nat.{◌-◌, ◌≤◌}
 use mathlib.Core.Path.{◌≡◌}
 use lib.ListN.{drop}
 use Rattle.store.specs.Views.{unmarked_node}
@@ -7,7 +6,4 @@ use Rattle.kit.specs.Loops.{all}
 use Rattle.formed.proofs.unmarked_nodes.Given as goal
 
 abbrev pub invariant-loop-i : goal.invariant-loop-i
-invariant-loop-i l = (l.i ≤ l.count) × (all unmarked_node (drop l.i (nodes_of l.count l.nodes)) ≡ all unmarked_node (nodes_of l.count l.nodes))
-
-abbrev pub decreases-loop-i : goal.decreases-loop-i
-decreases-loop-i l = l.count - l.i
+invariant-loop-i l = all unmarked_node (drop l.i (nodes_of l.count l.nodes)) ≡ all unmarked_node (nodes_of l.count l.nodes)

@@ -16,7 +16,7 @@ use Rattle.keeping.proofs.first_lost.Goals as goal
 pub loop-i-init : goal.loop-i-init
 loop-i-init c =
     let a = c.args in
-    (omega arith, none_lost (graph_of a.oldnodes.now [] [] a.c) (graph_of a.nodes.now [] a.links.now a.d) (list_of a.rules.now a.steps.now a.u) a.c.links a.oldlinks.now)
+    none_lost (graph_of a.oldnodes.now [] [] a.c) (graph_of a.nodes.now [] a.links.now a.d) (list_of a.rules.now a.steps.now a.u) a.c.links a.oldlinks.now
 
 pub link_kept-requires : goal.link_kept-requires
 link_kept-requires c = record { nodes_in_bounds = (c.requires.nodes_in_bounds.0, c.requires.nodes_in_bounds.2, c.requires.nodes_in_bounds.3); u_value = (c.requires.u_value.0, c.requires.u_value.1) }
@@ -28,7 +28,7 @@ loop-i-preserved-then-not-link_kept c =
     ap (λ (x : Edge). link_kept (graph_of a.oldnodes.now [] [] a.c) (graph_of a.nodes.now [] a.links.now a.d) (list_of a.rules.now a.steps.now a.u) (link x 0)) (sym c.ends_at.ensures) ∙ sym c.link_kept.ensures
     in
     let a = c.args in
-    (omega arith, link_goes (graph_of a.oldnodes.now [] [] a.c) (graph_of a.nodes.now [] a.links.now a.d) (list_of a.rules.now a.steps.now a.u) a.c.links a.oldlinks.now c.requires.u_value.2 c.loop-i.i c.loop-i.best (omega arith) (omega arith) c.loop-i.invariant.1 (kept_so ∙ not-true c.link_kept.result c.if-not-link_kept.true-raw) c.earlier-best.result c.earlier-best.ensures)
+    link_goes (graph_of a.oldnodes.now [] [] a.c) (graph_of a.nodes.now [] a.links.now a.d) (list_of a.rules.now a.steps.now a.u) a.c.links a.oldlinks.now c.requires.u_value.2 c.loop-i.i c.loop-i.best (omega arith) (omega arith) c.loop-i.invariant (kept_so ∙ not-true c.link_kept.result c.if-not-link_kept.true-raw) c.earlier-best.result c.earlier-best.ensures
 
 pub loop-i-preserved : goal.loop-i-preserved
 loop-i-preserved c =
@@ -37,11 +37,11 @@ loop-i-preserved c =
     ap (λ (x : Edge). link_kept (graph_of a.oldnodes.now [] [] a.c) (graph_of a.nodes.now [] a.links.now a.d) (list_of a.rules.now a.steps.now a.u) (link x 0)) (sym c.ends_at.ensures) ∙ sym c.link_kept.ensures
     in
     let a = c.args in
-    (omega arith, link_stays (graph_of a.oldnodes.now [] [] a.c) (graph_of a.nodes.now [] a.links.now a.d) (list_of a.rules.now a.steps.now a.u) a.c.links a.oldlinks.now c.requires.u_value.2 c.loop-i.i c.loop-i.best (omega arith) (omega arith) c.loop-i.invariant.1 (kept_so ∙ not-false c.link_kept.result c.if-not-link_kept.false-raw))
+    link_stays (graph_of a.oldnodes.now [] [] a.c) (graph_of a.nodes.now [] a.links.now a.d) (list_of a.rules.now a.steps.now a.u) a.c.links a.oldlinks.now c.requires.u_value.2 c.loop-i.i c.loop-i.best (omega arith) (omega arith) c.loop-i.invariant (kept_so ∙ not-false c.link_kept.result c.if-not-link_kept.false-raw)
 
 pub returns : goal.returns
 returns c =
     let a = c.args in
     let z : c.loop-i.i ≡ 0 = omega arith in
-    c.loop-i.invariant.1
+    c.loop-i.invariant
     ∙ ap (λ (k : ℕ). take 1 (lost_links (graph_of a.oldnodes.now [] [] a.c) (graph_of a.nodes.now [] a.links.now a.d) (list_of a.rules.now a.steps.now a.u) (drop k (links_of a.c.links a.oldlinks.now)))) z

@@ -1,8 +1,5 @@
-use Prim.Native.Nat.{◌+◌, ◌*◌, ◌≤◌}
 use mathlib.Core.Path.{sym, ap, ◌∙◌}
 use mathlib.Core.List.{[], List}
-use native.Mathlib.Omega.{arith}
-use lib.ListN.{length}
 use Rattle.handle.specs.declared.Handle.{Handle}
 use Rattle.handle.specs.Handle.{id_of}
 use Rattle.store.specs.Graph.{nodes_of, graph_of}
@@ -12,7 +9,7 @@ use Rattle.events.proofs.Says.{table-room}
 use Rattle.rewriting.proofs.Tables.{RuleFound, rule_found, rule_nowhere, looked_up}
 use Rattle.rewriting.proofs.Images.{no_rule}
 use Rattle.keeping.specs.Kept.{first_of}
-use Rattle.keeping.proofs.LinksKept.{slot_room, slot_steps, slot_inside, first_by_rule}
+use Rattle.keeping.proofs.LinksKept.{slot_steps, slot_inside, first_by_rule}
 use Rattle.keeping.proofs.first_step.Goals as goal
 
 pub find_rule-requires : goal.find_rule-requires
@@ -25,121 +22,25 @@ returns-in_default c =
     let a = c.args in
     let len = len_of (graph_of a.oldnodes.now [] [] a.c) (id_of a.h) in
     sym (ap (λ (hs : List Handle). (first_of hs).packed) (no_rule (graph_of a.oldnodes.now [] [] a.c) (list_of a.rules.now a.steps.now a.u) a.h
-    (rule_nowhere (id_of a.h) len (rules_of a.u.rules a.rules.now) (looked_up (nodes_of a.c.nodes a.oldnodes.now) (rules_of a.u.rules a.rules.now) a.h c.id-id.result c.node_len-len.result c.id-id.ensures c.node_len-len.ensures (sym c.in_default.is ∙ c.find_rule.ensures)))))
-
-pub overflow_mul-first : goal.overflow_mul-first
-overflow_mul-first c =
-    let found : RuleFound c.args.u.rules c.args.rules.now (id_of c.args.h) (len_of (graph_of c.args.oldnodes.now [] [] c.args.c) (id_of c.args.h)) c.in-At.i =
-    let a = c.args in
-    rule_found a.u.rules a.rules.now (id_of a.h) (len_of (graph_of a.oldnodes.now [] [] a.c) (id_of a.h)) c.in-At.i (looked_up (nodes_of a.c.nodes a.oldnodes.now) (rules_of a.u.rules a.rules.now) a.h c.id-id.result c.node_len-len.result c.id-id.ensures c.node_len-len.ensures (sym c.in-At.is ∙ c.find_rule.ensures))
-    in
-    let room : 4 * c.in-At.i + 4 ≤ length c.args.rules.now =
-    let a = c.args in
-    slot_room a.oldnodes.now a.rules.now a.steps.now a.c a.u c.requires.1 a.h c.in-At.i (found)
-    in
-    omega (arith, room)
-
-pub overflow_add-first : goal.overflow_add-first
-overflow_add-first c =
-    let found : RuleFound c.args.u.rules c.args.rules.now (id_of c.args.h) (len_of (graph_of c.args.oldnodes.now [] [] c.args.c) (id_of c.args.h)) c.in-At.i =
-    let a = c.args in
-    rule_found a.u.rules a.rules.now (id_of a.h) (len_of (graph_of a.oldnodes.now [] [] a.c) (id_of a.h)) c.in-At.i (looked_up (nodes_of a.c.nodes a.oldnodes.now) (rules_of a.u.rules a.rules.now) a.h c.id-id.result c.node_len-len.result c.id-id.ensures c.node_len-len.ensures (sym c.in-At.is ∙ c.find_rule.ensures))
-    in
-    let room : 4 * c.in-At.i + 4 ≤ length c.args.rules.now =
-    let a = c.args in
-    slot_room a.oldnodes.now a.rules.now a.steps.now a.c a.u c.requires.1 a.h c.in-At.i (found)
-    in
-    omega (arith, room)
-
-pub offset_bounds-rules-i : goal.offset_bounds-rules-i
-offset_bounds-rules-i c =
-    let found : RuleFound c.args.u.rules c.args.rules.now (id_of c.args.h) (len_of (graph_of c.args.oldnodes.now [] [] c.args.c) (id_of c.args.h)) c.in-At.i =
-    let a = c.args in
-    rule_found a.u.rules a.rules.now (id_of a.h) (len_of (graph_of a.oldnodes.now [] [] a.c) (id_of a.h)) c.in-At.i (looked_up (nodes_of a.c.nodes a.oldnodes.now) (rules_of a.u.rules a.rules.now) a.h c.id-id.result c.node_len-len.result c.id-id.ensures c.node_len-len.ensures (sym c.in-At.is ∙ c.find_rule.ensures))
-    in
-    let room : 4 * c.in-At.i + 4 ≤ length c.args.rules.now =
-    let a = c.args in
-    slot_room a.oldnodes.now a.rules.now a.steps.now a.c a.u c.requires.1 a.h c.in-At.i (found)
-    in
-    omega (arith, room)
-
-pub bounds-rules-i : goal.bounds-rules-i
-bounds-rules-i c =
-    let found : RuleFound c.args.u.rules c.args.rules.now (id_of c.args.h) (len_of (graph_of c.args.oldnodes.now [] [] c.args.c) (id_of c.args.h)) c.in-At.i =
-    let a = c.args in
-    rule_found a.u.rules a.rules.now (id_of a.h) (len_of (graph_of a.oldnodes.now [] [] a.c) (id_of a.h)) c.in-At.i (looked_up (nodes_of a.c.nodes a.oldnodes.now) (rules_of a.u.rules a.rules.now) a.h c.id-id.result c.node_len-len.result c.id-id.ensures c.node_len-len.ensures (sym c.in-At.is ∙ c.find_rule.ensures))
-    in
-    let room : 4 * c.in-At.i + 4 ≤ length c.args.rules.now =
-    let a = c.args in
-    slot_room a.oldnodes.now a.rules.now a.steps.now a.c a.u c.requires.1 a.h c.in-At.i (found)
-    in
-    omega (arith, room)
-
-pub overflow_mul-count : goal.overflow_mul-count
-overflow_mul-count c =
-    let found : RuleFound c.args.u.rules c.args.rules.now (id_of c.args.h) (len_of (graph_of c.args.oldnodes.now [] [] c.args.c) (id_of c.args.h)) c.in-At.i =
-    let a = c.args in
-    rule_found a.u.rules a.rules.now (id_of a.h) (len_of (graph_of a.oldnodes.now [] [] a.c) (id_of a.h)) c.in-At.i (looked_up (nodes_of a.c.nodes a.oldnodes.now) (rules_of a.u.rules a.rules.now) a.h c.id-id.result c.node_len-len.result c.id-id.ensures c.node_len-len.ensures (sym c.in-At.is ∙ c.find_rule.ensures))
-    in
-    let room : 4 * c.in-At.i + 4 ≤ length c.args.rules.now =
-    let a = c.args in
-    slot_room a.oldnodes.now a.rules.now a.steps.now a.c a.u c.requires.1 a.h c.in-At.i (found)
-    in
-    omega (arith, room)
-
-pub overflow_add-count : goal.overflow_add-count
-overflow_add-count c =
-    let found : RuleFound c.args.u.rules c.args.rules.now (id_of c.args.h) (len_of (graph_of c.args.oldnodes.now [] [] c.args.c) (id_of c.args.h)) c.in-At.i =
-    let a = c.args in
-    rule_found a.u.rules a.rules.now (id_of a.h) (len_of (graph_of a.oldnodes.now [] [] a.c) (id_of a.h)) c.in-At.i (looked_up (nodes_of a.c.nodes a.oldnodes.now) (rules_of a.u.rules a.rules.now) a.h c.id-id.result c.node_len-len.result c.id-id.ensures c.node_len-len.ensures (sym c.in-At.is ∙ c.find_rule.ensures))
-    in
-    let room : 4 * c.in-At.i + 4 ≤ length c.args.rules.now =
-    let a = c.args in
-    slot_room a.oldnodes.now a.rules.now a.steps.now a.c a.u c.requires.1 a.h c.in-At.i (found)
-    in
-    omega (arith, room)
-
-pub offset_bounds-rules-i-2 : goal.offset_bounds-rules-i-2
-offset_bounds-rules-i-2 c =
-    let found : RuleFound c.args.u.rules c.args.rules.now (id_of c.args.h) (len_of (graph_of c.args.oldnodes.now [] [] c.args.c) (id_of c.args.h)) c.in-At.i =
-    let a = c.args in
-    rule_found a.u.rules a.rules.now (id_of a.h) (len_of (graph_of a.oldnodes.now [] [] a.c) (id_of a.h)) c.in-At.i (looked_up (nodes_of a.c.nodes a.oldnodes.now) (rules_of a.u.rules a.rules.now) a.h c.id-id.result c.node_len-len.result c.id-id.ensures c.node_len-len.ensures (sym c.in-At.is ∙ c.find_rule.ensures))
-    in
-    let room : 4 * c.in-At.i + 4 ≤ length c.args.rules.now =
-    let a = c.args in
-    slot_room a.oldnodes.now a.rules.now a.steps.now a.c a.u c.requires.1 a.h c.in-At.i (found)
-    in
-    omega (arith, room)
-
-pub bounds-rules-i-2 : goal.bounds-rules-i-2
-bounds-rules-i-2 c =
-    let found : RuleFound c.args.u.rules c.args.rules.now (id_of c.args.h) (len_of (graph_of c.args.oldnodes.now [] [] c.args.c) (id_of c.args.h)) c.in-At.i =
-    let a = c.args in
-    rule_found a.u.rules a.rules.now (id_of a.h) (len_of (graph_of a.oldnodes.now [] [] a.c) (id_of a.h)) c.in-At.i (looked_up (nodes_of a.c.nodes a.oldnodes.now) (rules_of a.u.rules a.rules.now) a.h c.id-id.result c.node_len-len.result c.id-id.ensures c.node_len-len.ensures (sym c.in-At.is ∙ c.find_rule.ensures))
-    in
-    let room : 4 * c.in-At.i + 4 ≤ length c.args.rules.now =
-    let a = c.args in
-    slot_room a.oldnodes.now a.rules.now a.steps.now a.c a.u c.requires.1 a.h c.in-At.i (found)
-    in
-    omega (arith, room)
+    (rule_nowhere (id_of a.h) len (rules_of a.u.rules a.rules.now) (looked_up (nodes_of a.c.nodes a.oldnodes.now) (rules_of a.u.rules a.rules.now) a.h c.id-id.result c.node_len-len.result c.id-id.ensures c.node_len-len.ensures (sym c.in_default.is ∙ c.find_rule.ensures.value)))))
 
 pub image_step-requires : goal.image_step-requires
 image_step-requires c =
-    let found : RuleFound c.args.u.rules c.args.rules.now (id_of c.args.h) (len_of (graph_of c.args.oldnodes.now [] [] c.args.c) (id_of c.args.h)) c.in-At.i =
+    let found : RuleFound c.args.u.rules c.args.rules.now (id_of c.args.h) (len_of (graph_of c.args.oldnodes.now [] [] c.args.c) (id_of c.args.h)) c.in-Some.i =
     let a = c.args in
-    rule_found a.u.rules a.rules.now (id_of a.h) (len_of (graph_of a.oldnodes.now [] [] a.c) (id_of a.h)) c.in-At.i (looked_up (nodes_of a.c.nodes a.oldnodes.now) (rules_of a.u.rules a.rules.now) a.h c.id-id.result c.node_len-len.result c.id-id.ensures c.node_len-len.ensures (sym c.in-At.is ∙ c.find_rule.ensures))
+    rule_found a.u.rules a.rules.now (id_of a.h) (len_of (graph_of a.oldnodes.now [] [] a.c) (id_of a.h)) c.in-Some.i (looked_up (nodes_of a.c.nodes a.oldnodes.now) (rules_of a.u.rules a.rules.now) a.h c.id-id.result c.node_len-len.result c.id-id.ensures c.node_len-len.ensures (sym c.in-Some.is ∙ c.find_rule.ensures.value))
     in
     let a = c.args in
     let ok = c.requires.1 in
-    let k = c.in-At.i in
-    ((table-room a.rules.now a.steps.now a.u ok).step_room, slot_inside a.oldnodes.now a.rules.now a.steps.now a.c a.u ok a.h k (found), slot_steps a.oldnodes.now a.rules.now a.steps.now a.c a.u ok a.h k (found) c.requires.2)
+    let k = c.in-Some.i in
+    rw c.at-r.ensures ((table-room a.rules.now a.steps.now a.u ok).step_room, slot_inside a.oldnodes.now a.rules.now a.steps.now a.c a.u ok a.h k (found), slot_steps a.oldnodes.now a.rules.now a.steps.now a.c a.u ok a.h k (found) c.requires.2)
 
 pub returns : goal.returns
 returns c =
-    let found : RuleFound c.args.u.rules c.args.rules.now (id_of c.args.h) (len_of (graph_of c.args.oldnodes.now [] [] c.args.c) (id_of c.args.h)) c.in-At.i =
+    let found : RuleFound c.args.u.rules c.args.rules.now (id_of c.args.h) (len_of (graph_of c.args.oldnodes.now [] [] c.args.c) (id_of c.args.h)) c.in-Some.i =
     let a = c.args in
-    rule_found a.u.rules a.rules.now (id_of a.h) (len_of (graph_of a.oldnodes.now [] [] a.c) (id_of a.h)) c.in-At.i (looked_up (nodes_of a.c.nodes a.oldnodes.now) (rules_of a.u.rules a.rules.now) a.h c.id-id.result c.node_len-len.result c.id-id.ensures c.node_len-len.ensures (sym c.in-At.is ∙ c.find_rule.ensures))
+    rule_found a.u.rules a.rules.now (id_of a.h) (len_of (graph_of a.oldnodes.now [] [] a.c) (id_of a.h)) c.in-Some.i (looked_up (nodes_of a.c.nodes a.oldnodes.now) (rules_of a.u.rules a.rules.now) a.h c.id-id.result c.node_len-len.result c.id-id.ensures c.node_len-len.ensures (sym c.in-Some.is ∙ c.find_rule.ensures.value))
     in
     let a = c.args in
-    c.image_step.ensures
-    ∙ sym (first_by_rule a.oldnodes.now a.rules.now a.steps.now a.c a.u c.requires.1 a.h c.in-At.i (found) c.direction-direction.result c.direction-direction.ensures)
+    (rw c.at-r.ensures at c.image_step.ensures)
+    ∙ sym (first_by_rule a.oldnodes.now a.rules.now a.steps.now a.c a.u c.requires.1 a.h c.in-Some.i (found) c.direction-direction.result c.direction-direction.ensures)

@@ -1,14 +1,10 @@
-use mathlib.Core.Path.{sym, ◌∙◌}
-use Rattle.kit.proofs.Meaning.{found-any, nothing_any}
+use mathlib.Core.Path.{ap, ◌∙◌}
+use Rattle.std.specs.Option.{is_some}
+use Rattle.kit.proofs.Meaning.{found_some}
 use Rattle.events.specs.Events.{rules_of, keyed}
 use Rattle.keeping.proofs.has_rule.Goals as goal
-
-pub returns-in_default : goal.returns-in_default
-returns-in_default c =
-    let a = c.args in
-    sym (nothing_any (keyed a.id a.len) 0 (rules_of a.used a.rules.now) (sym c.find_rule.ensures ∙ c.in_default.is))
 
 pub returns : goal.returns
 returns c =
     let a = c.args in
-    sym (found-any (keyed a.id a.len) 0 _ (rules_of a.used a.rules.now) (sym c.find_rule.ensures ∙ c.in-At.is))
+    c.is_some.ensures ∙ ap is_some c.find_rule.ensures.value ∙ found_some (keyed a.id a.len) 0 (rules_of a.used a.rules.now)

@@ -1,4 +1,4 @@
-use Prim.Native.Nat.{◌+◌, ◌-◌, ◌≤◌}
+use Prim.Native.Nat.{◌+◌, ◌≤◌}
 use mathlib.Core.Path.{◌≡◌}
 use lib.ListN.{drop}
 use Rattle.kit.specs.Loops.{count}
@@ -7,7 +7,4 @@ use Rattle.store.specs.Graph.{ends, links_of}
 use Rattle.keeping.proofs.links_before.Given as goal
 
 abbrev pub invariant-loop-i : goal.invariant-loop-i
-invariant-loop-i l = (l.i ≤ l.total) × (l.n ≤ l.i) × (l.n + count (λ s. edge_before (ends s) l.e) (drop l.i (links_of l.total l.links)) ≡ count (λ s. edge_before (ends s) l.e) (links_of l.total l.links))
-
-abbrev pub decreases-loop-i : goal.decreases-loop-i
-decreases-loop-i l = l.total - l.i
+invariant-loop-i l = (l.n ≤ l.i) × (l.n + count (λ s. edge_before (ends s) l.e) (drop l.i (links_of l.total l.links)) ≡ count (λ s. edge_before (ends s) l.e) (links_of l.total l.links))

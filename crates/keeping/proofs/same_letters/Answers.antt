@@ -22,7 +22,7 @@ returns-then-not-same_letter c =
     let p = length-read a.oldtext.now a.r c.requires.0 in
     let q = length-read a.text.now a.s c.requires.1 in
     let e = ap₂ same_letter (sym c.letter.ensures) (sym c.letter-in-loop-i.ensures) ∙ sym c.same_letter.ensures ∙ not-true c.same_letter.result c.if-not-same_letter.true-raw in
-    sym (letter_other x y c.loop-i.i (omega arith) (omega arith) e) ∙ c.loop-i.invariant.1
+    sym (letter_other x y c.loop-i.i (omega arith) (omega arith) e) ∙ c.loop-i.invariant
 
 pub loop-i-preserved : goal.loop-i-preserved
 loop-i-preserved c =
@@ -32,11 +32,11 @@ loop-i-preserved c =
     let p = length-read a.oldtext.now a.r c.requires.0 in
     let q = length-read a.text.now a.s c.requires.1 in
     let e = ap₂ same_letter (sym c.letter.ensures) (sym c.letter-in-loop-i.ensures) ∙ sym c.same_letter.ensures ∙ not-false c.same_letter.result c.if-not-same_letter.false-raw in
-    (omega arith, sym (letter_same x y c.loop-i.i (omega arith) (omega arith) e) ∙ c.loop-i.invariant.1)
+    sym (letter_same x y c.loop-i.i (omega arith) (omega arith) e) ∙ c.loop-i.invariant
 
 pub returns : goal.returns
 returns c =
     let a = c.args in
     let p = length-read a.oldtext.now a.r c.requires.0 in
     let q = length-read a.text.now a.s c.requires.1 in
-    sym (letters_end (read a.oldtext.now a.r) (read a.text.now a.s) c.loop-i.i (omega arith) (omega arith)) ∙ c.loop-i.invariant.1
+    sym (letters_end (read a.oldtext.now a.r) (read a.text.now a.s) c.loop-i.i (omega arith) (omega arith)) ∙ c.loop-i.invariant

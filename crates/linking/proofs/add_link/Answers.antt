@@ -14,4 +14,4 @@ returns-in_default c =
 pub returns : goal.returns
 returns c =
     let a = c.args in
-    rw (link-found a.count a.links.now (edge a.x a.y) c.in-At.field-0 (sym c.find_link.ensures ∙ c.in-At.is)).is_linked (made (starts a.count a.links.now (omega arith)))
+    rw (link-found a.count a.links.now (edge a.x a.y) c.in-Some.field-0 (sym c.find_link.ensures ∙ c.in-Some.is)).is_linked (made (starts a.count a.links.now (omega arith)))

@@ -8,7 +8,8 @@ use Rattle.kit.specs.Layout.{encode}
 use Rattle.kit.proofs.Laws.{length-decode}
 use Rattle.handle.specs.declared.Edge.{Edge}
 use Rattle.handle.specs.Edge.{edge, written}
-use Rattle.store.specs.Graph.{Link, link, link_layout, links_of}
+use Rattle.store.specs.Graph.{link, link_layout, links_of}
+use Rattle.store.specs.declared.Link.{Link}
 use Rattle.linking.proofs.Growth.{one_more}
 use Rattle.linking.proofs.Fitting.{full, made}
 use Rattle.linking.proofs.append_link.Goals as goal

@@ -9,7 +9,8 @@ use Rattle.kit.specs.Loops.{map_from}
 use Rattle.kit.proofs.Laws.{length-decode, decode-at, decode-store, rest-set, by_decode}
 use Rattle.kit.proofs.Steps.{map-stored, map-done}
 use Rattle.handle.specs.Handle.{id_of}
-use Rattle.store.specs.Graph.{Link, link, ends, link_layout, links_of, unpack_link}
+use Rattle.store.specs.Graph.{link, ends, link_layout, links_of, unpack_link}
+use Rattle.store.specs.declared.Link.{Link}
 use Rattle.store.proofs.Fields.{link_at, link_is}
 use Rattle.merging.specs.Plan.{bury}
 use Rattle.linking.proofs.bury_links.Goals as goal
@@ -42,7 +43,7 @@ loop-i-preserved c =
     record {
       bound = omega arith;
       size = simp length-set c.loop-i.invariant.size;
-      todo = turn a.count i a.id c.bury_mark.result l h room c.bury_mark.ensures ∙ c.loop-i.invariant.todo;
+      todo = turn a.count i a.id c.bury_mark.result l h room (c.bury_mark.ensures ∙ ap (λ (r : Link). cond (eqb (id_of r.from) a.id || eqb (id_of r.to) a.id) 1 r.mark) c.at.ensures) ∙ c.loop-i.invariant.todo;
       rest = rest-set link_layout a.count i 2 l c.bury_mark.result h (omega arith) ∙ c.loop-i.invariant.rest;
     }
 

@@ -6,7 +6,8 @@ use native.Mathlib.Omega.{arith}
 use lib.ListN.{length, drop, get_or}
 use Rattle.handle.specs.declared.Handle.{Handle}
 use Rattle.handle.specs.Handle.{max_id}
-use Rattle.store.specs.Graph.{Node, handle, nodes_of, links_of}
+use Rattle.store.specs.Graph.{handle, nodes_of, links_of}
+use Rattle.store.specs.declared.Node.{Node}
 use Rattle.merging.specs.Plan.{long_by, later_links_all}
 use Rattle.linking.specs.Fit.{Later, later_by}
 use Rattle.linking.proofs.Growth.{later_more, later_all-more}
@@ -59,13 +60,13 @@ later_links-requires c =
     let k = met in
     record { count_in_bounds = omega arith; m_bound = ((now k).high, free k); m_value = ((now k).away, k.inv.later.ends) }
 
-pub returns-in_default : goal.returns-in_default
-returns-in_default c =
+pub returns-in_err-more : goal.returns-in_err-more
+returns-in_err-more c =
     let met : Met c.args.p (nodes_of c.args.node_count c.args.nodes.now) c.args.x c.args.fresh c.args.links.now c.args.count (map handle c.args.members.now) c.loop-i.links c.loop-i.n c.loop-i.next c.loop-i.i (handle (get_or c.args.members.now c.loop-i.i 0)) c.is_long-long.result =
     record { inv = c.loop-i.invariant; front = left_member c.args.members.now c.loop-i.i (omega arith); long_is = c.is_long-long.ensures }
     in
     let k = met in
-    then_full k.inv.holds c.later_links.ensures c.in_default.is (grown k)
+    rw c.from_residual.ensures (then_full k.inv.holds c.later_links.ensures c.in_err-more.was (grown k))
 
 pub fresh_after-next-requires : goal.fresh_after-next-requires
 fresh_after-next-requires c =
@@ -79,7 +80,7 @@ loop-i-preserved c =
     let met : Met c.args.p (nodes_of c.args.node_count c.args.nodes.now) c.args.x c.args.fresh c.args.links.now c.args.count (map handle c.args.members.now) c.loop-i.links c.loop-i.n c.loop-i.next c.loop-i.i (handle (get_or c.args.members.now c.loop-i.i 0)) c.is_long-long.result =
     record { inv = c.loop-i.invariant; front = left_member c.args.members.now c.loop-i.i (omega arith); long_is = c.is_long-long.ensures }
     in
-    turn (met) c.in-Count.more c.fresh_after-next.result (made-count c.in-Count.more c.later_links.ensures c.in-Count.is) c.fresh_after-next.ensures
+    turn (met) c.in_ok-more.more c.fresh_after-next.result (made-count c.in_ok-more.more c.later_links.ensures c.in_ok-more.was) c.fresh_after-next.ensures
 
 pub returns : goal.returns
 returns c =

@@ -1,9 +1,10 @@
-use Prim.Native.Nat.{ℕ, ◌-◌}
+use Prim.Native.Nat.{ℕ}
 use mathlib.Core.Path.{◌≡◌}
 use mathlib.Core.List.{List, map}
 use lib.ListN.{length, drop}
 use Rattle.handle.specs.declared.Handle.{Handle}
-use Rattle.store.specs.Graph.{Node, handle, nodes_of, links_of}
+use Rattle.store.specs.Graph.{handle, nodes_of, links_of}
+use Rattle.store.specs.declared.Node.{Node}
 use Rattle.merging.specs.Plan.{later_links_all}
 use Rattle.linking.specs.Fit.{Later}
 use Rattle.linking.proofs.Fitting.{Holds}
@@ -18,6 +19,3 @@ pub record Inv (p : ℕ) (nodes : List Node) (x : Handle) (fresh : ℕ) (links�
 
 abbrev pub invariant-loop-i : goal.invariant-loop-i
 invariant-loop-i l = Inv l.p (nodes_of l.node_count l.nodes) l.x l.fresh l.initial.links l.count (map handle l.members) l.links l.n l.next l.i
-
-abbrev pub decreases-loop-i : goal.decreases-loop-i
-decreases-loop-i l = length l.members - l.i

@@ -8,7 +8,8 @@ use lib.ListN.{length}
 use Rattle.handle.specs.declared.Handle.{Handle}
 use Rattle.handle.specs.Handle.{id_of}
 use Rattle.handle.specs.Edge.{edge}
-use Rattle.store.specs.Graph.{Link, handle, links_of}
+use Rattle.store.specs.Graph.{handle, links_of}
+use Rattle.store.specs.declared.Link.{Link}
 use Rattle.sides.specs.Sides.{next_above}
 use Rattle.sides.proofs.Rising.{rest_above}
 use Rattle.merging.specs.Merging.{add_link, add_links, read_as}
@@ -62,24 +63,24 @@ returns-then-y-eq0 c =
     let a = c.args in
     made_as c.loop-m.invariant.holds (sym (pass_end a.m a.x (links_of c.loop-m.n c.loop-m.links) c.loop-m.above c.next_unmarked-y.result c.next_unmarked-y.ensures c.if-y-eq0.true) ∙ c.loop-m.invariant.todo)
 
-pub returns-in_default : goal.returns-in_default
-returns-in_default c =
+pub returns-in_err-more : goal.returns-in_err-more
+returns-in_err-more c =
     let met : Met c.args.links.now c.args.count c.args.m c.args.x c.loop-m.links c.loop-m.n c.loop-m.above c.next_unmarked-y.result c.read_as-to.result =
     record { inv = c.loop-m.invariant; away = c.requires.m_value.0; next_is = c.next_unmarked-y.ensures; some = c.if-y-eq0.false; to_is = c.read_as-to.ensures }
     in
     let k = met in
-    then_full k.inv.holds c.add_link.ensures c.in_default.is (grown k)
+    rw c.from_residual.ensures (then_full k.inv.holds c.add_link.ensures c.in_err-more.was (grown k))
 
 pub loop-m-smaller : goal.loop-m-smaller
 loop-m-smaller c =
     let met : Met c.args.links.now c.args.count c.args.m c.args.x c.loop-m.links c.loop-m.n c.loop-m.above c.next_unmarked-y.result c.read_as-to.result =
     record { inv = c.loop-m.invariant; away = c.requires.m_value.0; next_is = c.next_unmarked-y.ensures; some = c.if-y-eq0.false; to_is = c.read_as-to.ensures }
     in
-    less (met) c.in-Count.more (made-count c.in-Count.more c.add_link.ensures c.in-Count.is)
+    less (met) c.in_ok-more.more (made-count c.in_ok-more.more c.add_link.ensures c.in_ok-more.was)
 
 pub loop-m-preserved : goal.loop-m-preserved
 loop-m-preserved c =
     let met : Met c.args.links.now c.args.count c.args.m c.args.x c.loop-m.links c.loop-m.n c.loop-m.above c.next_unmarked-y.result c.read_as-to.result =
     record { inv = c.loop-m.invariant; away = c.requires.m_value.0; next_is = c.next_unmarked-y.ensures; some = c.if-y-eq0.false; to_is = c.read_as-to.ensures }
     in
-    turn (met) c.in-Count.more (made-count c.in-Count.more c.add_link.ensures c.in-Count.is)
+    turn (met) c.in_ok-more.more (made-count c.in_ok-more.more c.add_link.ensures c.in_ok-more.was)

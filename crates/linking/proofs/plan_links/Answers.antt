@@ -6,10 +6,12 @@ use native.Mathlib.Omega.{arith}
 use lib.ListN.{length, drop, get_or, length-map}
 use Rattle.handle.specs.declared.Handle.{Handle}
 use Rattle.handle.specs.Handle.{max_id, id_of}
-use Rattle.store.specs.Graph.{Node, Link, handle, nodes_of, links_of}
+use Rattle.store.specs.Graph.{handle, nodes_of, links_of}
+use Rattle.store.specs.declared.Node.{Node}
+use Rattle.store.specs.declared.Link.{Link}
 use Rattle.store.specs.Views.{largest}
 use Rattle.split.specs.Split.{split_links}
-use Rattle.linking.specs.declared.Made.{Made}
+use Rattle.std.specs.Prelude.{Option}
 use Rattle.merging.specs.Plan.{long_by, later_links_all, planned}
 use Rattle.linking.specs.Fit.{Makes, Later, Plans, prefix_if}
 use Rattle.linking.proofs.Growth.{later_all-more}
@@ -50,7 +52,7 @@ module _ {p : ℕ} {nodes : List Node} {rs : List Link} {members : List ℕ} {fr
     whole : later_links_all p nodes x next alone ms ≡ planned p nodes rs (map handle members)
     whole = rw (q, e, k.long_is, k.fresh_is) (ap (planned p nodes rs) (sym front))
 
-    planned_so : {l mid out : List ℕ} {r : Made} (n : ℕ) → Holds l alone n mid → Makes mid (later_links_all p nodes x next (links_of n mid) ms) r out → Makes l (planned p nodes rs (map handle members)) r out
+    planned_so : {l mid out : List ℕ} {r : Option ℕ} (n : ℕ) → Holds l alone n mid → Makes mid (later_links_all p nodes x next (links_of n mid) ms) r out → Makes l (planned p nodes rs (map handle members)) r out
     planned_so n h s = rw whole at (then_makes h (later_all-more p nodes x next alone ms) (rw (holds_links h) at s))
 
   grown : length alone ≤ length (planned p nodes rs (map handle members))
@@ -73,8 +75,8 @@ alone_links-requires c =
     in
     record { count_in_bounds = omega arith; m_bound = ((start (known)).high, free (known)) }
 
-pub returns-in_default : goal.returns-in_default
-returns-in_default c =
+pub returns-in_err-n : goal.returns-in_err-n
+returns-in_err-n c =
     let known : Known c.args.p (nodes_of c.args.node_count c.args.nodes.now) (links_of c.args.count c.args.links.now) c.args.members.now (c.largest_id-fresh.result + 1) c.is_long-long.result =
     record {
       plans = c.requires.plans;
@@ -83,7 +85,7 @@ returns-in_default c =
     }
     in
     let a = c.args in
-    then_full (starts a.count a.links.now (omega arith)) c.alone_links.ensures c.in_default.is (grown (known))
+    rw c.from_residual.ensures (then_full (starts a.count a.links.now (omega arith)) c.alone_links.ensures c.in_err-n.was (grown (known)))
 
 pub prefix_of-x-requires : goal.prefix_of-x-requires
 prefix_of-x-requires c =
@@ -116,7 +118,7 @@ later_all-requires c =
       long_is = c.is_long-long.ensures;
     }
     in
-    let h = made-count c.in-Count.n c.alone_links.ensures c.in-Count.is in
+    let h = made-count c.in_ok-n.n c.alone_links.ensures c.in_ok-n.was in
     record { node_count_in_bounds = (c.requires.node_count_in_bounds.0, omega (arith, h.room, holds_size h)); later = rw (holds_links h) (later (known) c.prefix_of-x.result c.fresh_after-next.result c.prefix_of-x.ensures c.fresh_after-next.ensures) }
 
 pub returns : goal.returns
@@ -128,4 +130,4 @@ returns c =
       long_is = c.is_long-long.ensures;
     }
     in
-    planned_so (known) c.prefix_of-x.result c.fresh_after-next.result c.prefix_of-x.ensures c.fresh_after-next.ensures c.in-Count.n (made-count c.in-Count.n c.alone_links.ensures c.in-Count.is) c.later_all.ensures
+    planned_so (known) c.prefix_of-x.result c.fresh_after-next.result c.prefix_of-x.ensures c.fresh_after-next.ensures c.in_ok-n.n (made-count c.in_ok-n.n c.alone_links.ensures c.in_ok-n.was) c.later_all.ensures

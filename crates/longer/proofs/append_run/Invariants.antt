@@ -1,5 +1,5 @@
-use Prim.Native.Nat.{◌+◌, ◌-◌, ◌≤◌}
-use lib.ListN.{length, drop}
+use Prim.Native.Nat.{◌+◌, ◌≤◌}
+use lib.ListN.{drop}
 use Rattle.kit.specs.Loops.{count}
 use Rattle.handle.specs.Handle.{max_id}
 use Rattle.store.specs.Graph.{nodes_of}
@@ -15,6 +15,3 @@ invariant-loop-i l =
     let N = nodes_of l.node_count l.nodes in
     let ms = handles_of l.members in
     (l.fresh + count (long_by l.p N) (drop l.i ms) ≤ max_id + 1) × Going (append_all (list_of l.initial.rules l.initial.steps l.initial.used) (later_events_by l.p N l.x l.initial.fresh (drop l.initial.i ms))) l.initial.rules l.initial.steps l.rules l.steps l.used (later_events_by l.p N l.x l.fresh (drop l.i ms))
-
-abbrev pub decreases-loop-i : goal.decreases-loop-i
-decreases-loop-i l = length l.members - l.i

@@ -6,7 +6,8 @@ use native.Mathlib.Omega.{arith}
 use lib.Dec.{ltb}
 use Rattle.handle.specs.declared.Handle.{Handle}
 use Rattle.handle.specs.Handle.{max_id}
-use Rattle.store.specs.Graph.{Node, nodes_of}
+use Rattle.store.specs.Graph.{nodes_of}
+use Rattle.store.specs.declared.Node.{Node}
 use Rattle.store.specs.Views.{largest}
 use Rattle.merging.specs.Plan.{long_by, fresh_after}
 use Rattle.longer.specs.declared.Run.{Run}

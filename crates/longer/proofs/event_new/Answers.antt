@@ -9,7 +9,8 @@ use lib.Dec.{ltb}
 use Rattle.kit.specs.Loops.{any}
 use Rattle.handle.specs.declared.Handle.{Handle}
 use Rattle.handle.specs.Handle.{id_of}
-use Rattle.events.specs.Events.{Rule, keyed, rules_of}
+use Rattle.events.specs.Events.{keyed, rules_of}
+use Rattle.events.specs.declared.Rule.{Rule}
 use Rattle.events.specs.WellFormed.{steps_later}
 use Rattle.merging.specs.Plan.{suffix_by}
 use Rattle.longer.specs.Longer.{event_one}

@@ -1,6 +1,5 @@
-use Prim.Native.Nat.{◌-◌}
 use mathlib.Core.Path.{◌≡◌}
-use lib.ListN.{length, drop}
+use lib.ListN.{drop}
 use Rattle.kit.specs.Loops.{all}
 use Rattle.store.specs.Graph.{nodes_of}
 use Rattle.affix.specs.Prefix.{handles_of}
@@ -11,6 +10,3 @@ use Rattle.longer.proofs.keys_new.Given as goal
 
 abbrev pub invariant-loop-i : goal.invariant-loop-i
 invariant-loop-i l = all (key_new (rules_of l.rule_count l.rules) (nodes_of l.node_count l.nodes)) (drop l.i (handles_of l.members)) ≡ keys_new (rules_of l.rule_count l.rules) (events_by l.p (nodes_of l.node_count l.nodes) (handles_of l.members))
-
-abbrev pub decreases-loop-i : goal.decreases-loop-i
-decreases-loop-i l = length l.members - l.i

@@ -8,7 +8,8 @@ use lib.Dec.{ltb}
 use lib.ListN.{length}
 use Rattle.handle.specs.declared.Handle.{Handle}
 use Rattle.handle.specs.Handle.{dir_of}
-use Rattle.events.specs.Events.{Step, step_layout, steps_of, step_to}
+use Rattle.events.specs.Events.{step_layout, steps_of, step_to}
+use Rattle.events.specs.declared.Step.{Step}
 use Rattle.longer.specs.Longer.{facing, front}
 use Rattle.longer.proofs.OneEvent.{exact_walk, forward_walk, reverse_walk, exact-length, long-length}
 use Rattle.longer.proofs.push_walk.Goals as goal

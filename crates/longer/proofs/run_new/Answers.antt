@@ -9,7 +9,8 @@ use lib.ListN.{drop}
 use Rattle.kit.proofs.Steps.{all_pass, all_fail}
 use Rattle.store.specs.Graph.{nodes_of}
 use Rattle.affix.specs.Prefix.{handles_of}
-use Rattle.events.specs.Events.{Rule, rules_of, Event}
+use Rattle.events.specs.Events.{rules_of, Event}
+use Rattle.events.specs.declared.Rule.{Rule}
 use Rattle.events.specs.WellFormed.{steps_later}
 use Rattle.longer.specs.Ahead.{later_events_by, steps_new}
 use Rattle.longer.proofs.Turns.{count_turn, run-turn, run_end}

@@ -1,6 +1,6 @@
-use Prim.Native.Nat.{◌+◌, ◌-◌, ◌≤◌}
+use Prim.Native.Nat.{◌+◌, ◌≤◌}
 use mathlib.Core.Path.{◌≡◌}
-use lib.ListN.{length, drop}
+use lib.ListN.{drop}
 use Rattle.kit.specs.Loops.{count}
 use Rattle.handle.specs.Handle.{max_id}
 use Rattle.store.specs.Graph.{nodes_of}
@@ -16,6 +16,3 @@ invariant-loop-i l =
     let R = rules_of l.rule_count l.rules in
     let ms = handles_of l.members in
     (l.fresh + count (long_by l.p N) (drop l.i ms) ≤ max_id + 1) × (steps_new R (later_events_by l.p N l.x l.fresh (drop l.i ms)) ≡ steps_new R (later_events_by l.p N l.x l.initial.fresh (drop l.initial.i ms)))
-
-abbrev pub decreases-loop-i : goal.decreases-loop-i
-decreases-loop-i l = length l.members - l.i

@@ -2,10 +2,12 @@ use Rattle.reading.specs.Outcome.{read_outcome}
 use Rattle.reading.proofs.Turns.{read_good, read-refused}
 use Rattle.reading.proofs.read_text.Goals as goal
 
-pub returns-then-r-eq0 : goal.returns-then-r-eq0
+pub returns-in-Ok : goal.returns-in-Ok
 unfolding read_outcome
-returns-then-r-eq0 c = read_good c.both_passes-r.ensures c.if-r-eq0.true
+returns-in-Ok c = read_good c.both_passes.ensures c.in-Ok.is
 
-pub returns : goal.returns
+pub returns-in-Err : goal.returns-in-Err
 unfolding read_outcome
-returns c = read-refused c.both_passes-r.ensures c.if-r-eq0.false c.clear_all.ensures.nodes_after c.clear_all.ensures.letters_after c.clear_all.ensures.links_after
+returns-in-Err c =
+    let k = c.clear_all.ensures in
+    rw c.number.ensures (read-refused c.both_passes.ensures c.in-Err.is k.nodes_after k.letters_after k.links_after)

@@ -1,4 +1,3 @@
-use Prim.Native.Nat.{◌-◌}
 use Rattle.groups.specs.Groups.{numbers}
 use Rattle.events.specs.Events.{rule, steps_of}
 use Rattle.rewriting.specs.Rewriting.{nodes_on}
@@ -8,6 +7,3 @@ use Rattle.rewriting.proofs.put_image.Given as goal
 
 abbrev pub invariant-loop-j : goal.invariant-loop-j
 invariant-loop-j l = Putting (numbers (towards l.direction (nodes_on (steps_of l.total l.steps) (rule 0 0 l.first l.count)))) l.at l.initial.out l.out l.j
-
-abbrev pub decreases-loop-j : goal.decreases-loop-j
-decreases-loop-j l = l.count - l.j

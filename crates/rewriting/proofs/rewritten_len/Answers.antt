@@ -12,4 +12,4 @@ pub loop-i-preserved : goal.loop-i-preserved
 loop-i-preserved c = measured_next c.loop-i.invariant c.image_len-len.result c.image_len-len.ensures (omega arith) c.if-room-n.false
 
 pub returns : goal.returns
-returns c = measured_all c.loop-i.invariant c.loop-i-test.false
+returns c = measured_all c.loop-i.invariant (omega arith)

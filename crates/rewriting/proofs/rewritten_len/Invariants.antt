@@ -1,5 +1,3 @@
-use Prim.Native.Nat.{◌-◌}
-use lib.ListN.{length}
 use Rattle.store.specs.Graph.{nodes_of}
 use Rattle.events.specs.Events.{rules_of}
 use Rattle.spelling.proofs.Steps.{Measured}
@@ -8,6 +6,3 @@ use Rattle.rewriting.proofs.rewritten_len.Given as goal
 
 abbrev pub invariant-loop-i : goal.invariant-loop-i
 invariant-loop-i l = Measured (new_len (nodes_of l.count l.nodes) (rules_of l.used l.rules)) l.room l.walk l.n l.i
-
-abbrev pub decreases-loop-i : goal.decreases-loop-i
-decreases-loop-i l = length l.walk - l.i

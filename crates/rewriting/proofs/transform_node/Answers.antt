@@ -12,7 +12,8 @@ use Rattle.store.specs.Graph.{handle, nodes_of, graph_of}
 use Rattle.store.specs.Views.{len_of}
 use Rattle.groups.specs.Groups.{numbers}
 use Rattle.events.specs.declared.Used.{Used}
-use Rattle.events.specs.Events.{Rule, rule, rules_of, steps_of, list_of}
+use Rattle.events.specs.Events.{rule, rules_of, steps_of, list_of}
+use Rattle.events.specs.declared.Rule.{Rule}
 use Rattle.events.specs.WellFormed.{table_formed}
 use Rattle.events.proofs.Says.{table-room}
 use Rattle.rewriting.specs.Rewriting.{ruled, nodes_on, transform_node}
@@ -60,136 +61,40 @@ find_rule-requires c =
     let a = c.args in
     omega (arith, (table-room a.rules.now a.steps.now a.u c.requires.nodes_in_bounds.1).rule_room)
 
-pub bounds-out-at : goal.bounds-out-at
-bounds-out-at c =
-    let nowhere : image c.args.nodes.now c.args.rules.now c.args.steps.now c.args.c c.args.u c.args.step ≡ handle c.args.step ∷ [] =
-    let a = c.args in
-    alone a.nodes.now a.rules.now a.steps.now a.c a.u a.step (rule_nowhere (id_of (handle a.step)) (len a.nodes.now a.rules.now a.steps.now a.c a.u a.step) (rules_of a.u.rules a.rules.now) (looked_up (nodes_of a.c.nodes a.nodes.now) (rules_of a.u.rules a.rules.now) (handle a.step) c.id-id.result c.node_len-len.result c.id-id.ensures c.node_len-len.ensures (sym c.in_default.is ∙ c.find_rule.ensures)))
-    in
-    omega (arith, ap length (nowhere), c.requires.step_in_bounds)
-
 pub returns-in_default : goal.returns-in_default
 returns-in_default c =
     let nowhere : image c.args.nodes.now c.args.rules.now c.args.steps.now c.args.c c.args.u c.args.step ≡ handle c.args.step ∷ [] =
     let a = c.args in
-    alone a.nodes.now a.rules.now a.steps.now a.c a.u a.step (rule_nowhere (id_of (handle a.step)) (len a.nodes.now a.rules.now a.steps.now a.c a.u a.step) (rules_of a.u.rules a.rules.now) (looked_up (nodes_of a.c.nodes a.nodes.now) (rules_of a.u.rules a.rules.now) (handle a.step) c.id-id.result c.node_len-len.result c.id-id.ensures c.node_len-len.ensures (sym c.in_default.is ∙ c.find_rule.ensures)))
+    alone a.nodes.now a.rules.now a.steps.now a.c a.u a.step (rule_nowhere (id_of (handle a.step)) (len a.nodes.now a.rules.now a.steps.now a.c a.u a.step) (rules_of a.u.rules a.rules.now) (looked_up (nodes_of a.c.nodes a.nodes.now) (rules_of a.u.rules a.rules.now) (handle a.step) c.id-id.result c.node_len-len.result c.id-id.ensures c.node_len-len.ensures (sym c.in_default.is ∙ c.find_rule.ensures.value)))
     in
     let a = c.args in
     put_alone a.nodes.now a.rules.now a.steps.now a.c a.u a.step a.at a.out.now (nowhere)
 
-pub overflow_mul-first : goal.overflow_mul-first
-overflow_mul-first c =
-    let found : RuleFound c.args.u.rules c.args.rules.now (id_of (handle c.args.step)) (len c.args.nodes.now c.args.rules.now c.args.steps.now c.args.c c.args.u c.args.step) c.in-At.i =
+pub bounds-out-at : goal.bounds-out-at
+bounds-out-at c =
+    let nowhere : image c.args.nodes.now c.args.rules.now c.args.steps.now c.args.c c.args.u c.args.step ≡ handle c.args.step ∷ [] =
     let a = c.args in
-    rule_found a.u.rules a.rules.now (id_of (handle a.step)) (len a.nodes.now a.rules.now a.steps.now a.c a.u a.step) c.in-At.i (looked_up (nodes_of a.c.nodes a.nodes.now) (rules_of a.u.rules a.rules.now) (handle a.step) c.id-id.result c.node_len-len.result c.id-id.ensures c.node_len-len.ensures (sym c.in-At.is ∙ c.find_rule.ensures))
+    alone a.nodes.now a.rules.now a.steps.now a.c a.u a.step (rule_nowhere (id_of (handle a.step)) (len a.nodes.now a.rules.now a.steps.now a.c a.u a.step) (rules_of a.u.rules a.rules.now) (looked_up (nodes_of a.c.nodes a.nodes.now) (rules_of a.u.rules a.rules.now) (handle a.step) c.id-id.result c.node_len-len.result c.id-id.ensures c.node_len-len.ensures (sym c.in_default.is ∙ c.find_rule.ensures.value)))
     in
-    let slot : 4 * c.in-At.i + 4 ≤ length c.args.rules.now =
-    let a = c.args in
-    omega (arith, (found).within, (table-room a.rules.now a.steps.now a.u c.requires.nodes_in_bounds.1).rule_room)
-    in
-    omega (arith, slot)
-
-pub overflow_add-first : goal.overflow_add-first
-overflow_add-first c =
-    let found : RuleFound c.args.u.rules c.args.rules.now (id_of (handle c.args.step)) (len c.args.nodes.now c.args.rules.now c.args.steps.now c.args.c c.args.u c.args.step) c.in-At.i =
-    let a = c.args in
-    rule_found a.u.rules a.rules.now (id_of (handle a.step)) (len a.nodes.now a.rules.now a.steps.now a.c a.u a.step) c.in-At.i (looked_up (nodes_of a.c.nodes a.nodes.now) (rules_of a.u.rules a.rules.now) (handle a.step) c.id-id.result c.node_len-len.result c.id-id.ensures c.node_len-len.ensures (sym c.in-At.is ∙ c.find_rule.ensures))
-    in
-    let slot : 4 * c.in-At.i + 4 ≤ length c.args.rules.now =
-    let a = c.args in
-    omega (arith, (found).within, (table-room a.rules.now a.steps.now a.u c.requires.nodes_in_bounds.1).rule_room)
-    in
-    omega (arith, slot)
-
-pub offset_bounds-rules-i : goal.offset_bounds-rules-i
-offset_bounds-rules-i c =
-    let found : RuleFound c.args.u.rules c.args.rules.now (id_of (handle c.args.step)) (len c.args.nodes.now c.args.rules.now c.args.steps.now c.args.c c.args.u c.args.step) c.in-At.i =
-    let a = c.args in
-    rule_found a.u.rules a.rules.now (id_of (handle a.step)) (len a.nodes.now a.rules.now a.steps.now a.c a.u a.step) c.in-At.i (looked_up (nodes_of a.c.nodes a.nodes.now) (rules_of a.u.rules a.rules.now) (handle a.step) c.id-id.result c.node_len-len.result c.id-id.ensures c.node_len-len.ensures (sym c.in-At.is ∙ c.find_rule.ensures))
-    in
-    let slot : 4 * c.in-At.i + 4 ≤ length c.args.rules.now =
-    let a = c.args in
-    omega (arith, (found).within, (table-room a.rules.now a.steps.now a.u c.requires.nodes_in_bounds.1).rule_room)
-    in
-    omega (arith, slot)
-
-pub bounds-rules-i : goal.bounds-rules-i
-bounds-rules-i c =
-    let found : RuleFound c.args.u.rules c.args.rules.now (id_of (handle c.args.step)) (len c.args.nodes.now c.args.rules.now c.args.steps.now c.args.c c.args.u c.args.step) c.in-At.i =
-    let a = c.args in
-    rule_found a.u.rules a.rules.now (id_of (handle a.step)) (len a.nodes.now a.rules.now a.steps.now a.c a.u a.step) c.in-At.i (looked_up (nodes_of a.c.nodes a.nodes.now) (rules_of a.u.rules a.rules.now) (handle a.step) c.id-id.result c.node_len-len.result c.id-id.ensures c.node_len-len.ensures (sym c.in-At.is ∙ c.find_rule.ensures))
-    in
-    let slot : 4 * c.in-At.i + 4 ≤ length c.args.rules.now =
-    let a = c.args in
-    omega (arith, (found).within, (table-room a.rules.now a.steps.now a.u c.requires.nodes_in_bounds.1).rule_room)
-    in
-    omega (arith, slot)
-
-pub overflow_mul-count : goal.overflow_mul-count
-overflow_mul-count c =
-    let found : RuleFound c.args.u.rules c.args.rules.now (id_of (handle c.args.step)) (len c.args.nodes.now c.args.rules.now c.args.steps.now c.args.c c.args.u c.args.step) c.in-At.i =
-    let a = c.args in
-    rule_found a.u.rules a.rules.now (id_of (handle a.step)) (len a.nodes.now a.rules.now a.steps.now a.c a.u a.step) c.in-At.i (looked_up (nodes_of a.c.nodes a.nodes.now) (rules_of a.u.rules a.rules.now) (handle a.step) c.id-id.result c.node_len-len.result c.id-id.ensures c.node_len-len.ensures (sym c.in-At.is ∙ c.find_rule.ensures))
-    in
-    let slot : 4 * c.in-At.i + 4 ≤ length c.args.rules.now =
-    let a = c.args in
-    omega (arith, (found).within, (table-room a.rules.now a.steps.now a.u c.requires.nodes_in_bounds.1).rule_room)
-    in
-    omega (arith, slot)
-
-pub overflow_add-count : goal.overflow_add-count
-overflow_add-count c =
-    let found : RuleFound c.args.u.rules c.args.rules.now (id_of (handle c.args.step)) (len c.args.nodes.now c.args.rules.now c.args.steps.now c.args.c c.args.u c.args.step) c.in-At.i =
-    let a = c.args in
-    rule_found a.u.rules a.rules.now (id_of (handle a.step)) (len a.nodes.now a.rules.now a.steps.now a.c a.u a.step) c.in-At.i (looked_up (nodes_of a.c.nodes a.nodes.now) (rules_of a.u.rules a.rules.now) (handle a.step) c.id-id.result c.node_len-len.result c.id-id.ensures c.node_len-len.ensures (sym c.in-At.is ∙ c.find_rule.ensures))
-    in
-    let slot : 4 * c.in-At.i + 4 ≤ length c.args.rules.now =
-    let a = c.args in
-    omega (arith, (found).within, (table-room a.rules.now a.steps.now a.u c.requires.nodes_in_bounds.1).rule_room)
-    in
-    omega (arith, slot)
-
-pub offset_bounds-rules-i-2 : goal.offset_bounds-rules-i-2
-offset_bounds-rules-i-2 c =
-    let found : RuleFound c.args.u.rules c.args.rules.now (id_of (handle c.args.step)) (len c.args.nodes.now c.args.rules.now c.args.steps.now c.args.c c.args.u c.args.step) c.in-At.i =
-    let a = c.args in
-    rule_found a.u.rules a.rules.now (id_of (handle a.step)) (len a.nodes.now a.rules.now a.steps.now a.c a.u a.step) c.in-At.i (looked_up (nodes_of a.c.nodes a.nodes.now) (rules_of a.u.rules a.rules.now) (handle a.step) c.id-id.result c.node_len-len.result c.id-id.ensures c.node_len-len.ensures (sym c.in-At.is ∙ c.find_rule.ensures))
-    in
-    let slot : 4 * c.in-At.i + 4 ≤ length c.args.rules.now =
-    let a = c.args in
-    omega (arith, (found).within, (table-room a.rules.now a.steps.now a.u c.requires.nodes_in_bounds.1).rule_room)
-    in
-    omega (arith, slot)
-
-pub bounds-rules-i-2 : goal.bounds-rules-i-2
-bounds-rules-i-2 c =
-    let found : RuleFound c.args.u.rules c.args.rules.now (id_of (handle c.args.step)) (len c.args.nodes.now c.args.rules.now c.args.steps.now c.args.c c.args.u c.args.step) c.in-At.i =
-    let a = c.args in
-    rule_found a.u.rules a.rules.now (id_of (handle a.step)) (len a.nodes.now a.rules.now a.steps.now a.c a.u a.step) c.in-At.i (looked_up (nodes_of a.c.nodes a.nodes.now) (rules_of a.u.rules a.rules.now) (handle a.step) c.id-id.result c.node_len-len.result c.id-id.ensures c.node_len-len.ensures (sym c.in-At.is ∙ c.find_rule.ensures))
-    in
-    let slot : 4 * c.in-At.i + 4 ≤ length c.args.rules.now =
-    let a = c.args in
-    omega (arith, (found).within, (table-room a.rules.now a.steps.now a.u c.requires.nodes_in_bounds.1).rule_room)
-    in
-    omega (arith, slot)
+    omega (arith, ap length (nowhere), c.requires.step_in_bounds)
 
 pub put_image-requires : goal.put_image-requires
 put_image-requires c =
-    let found : RuleFound c.args.u.rules c.args.rules.now (id_of (handle c.args.step)) (len c.args.nodes.now c.args.rules.now c.args.steps.now c.args.c c.args.u c.args.step) c.in-At.i =
+    let found : RuleFound c.args.u.rules c.args.rules.now (id_of (handle c.args.step)) (len c.args.nodes.now c.args.rules.now c.args.steps.now c.args.c c.args.u c.args.step) c.in-Some.i =
     let a = c.args in
-    rule_found a.u.rules a.rules.now (id_of (handle a.step)) (len a.nodes.now a.rules.now a.steps.now a.c a.u a.step) c.in-At.i (looked_up (nodes_of a.c.nodes a.nodes.now) (rules_of a.u.rules a.rules.now) (handle a.step) c.id-id.result c.node_len-len.result c.id-id.ensures c.node_len-len.ensures (sym c.in-At.is ∙ c.find_rule.ensures))
+    rule_found a.u.rules a.rules.now (id_of (handle a.step)) (len a.nodes.now a.rules.now a.steps.now a.c a.u a.step) c.in-Some.i (looked_up (nodes_of a.c.nodes a.nodes.now) (rules_of a.u.rules a.rules.now) (handle a.step) c.id-id.result c.node_len-len.result c.id-id.ensures c.node_len-len.ensures (sym c.in-Some.is ∙ c.find_rule.ensures.value))
     in
     let a = c.args in
     let ok = c.requires.nodes_in_bounds.1 in
-    let k = c.in-At.i in
-    ((table-room a.rules.now a.steps.now a.u ok).step_room, inside a.nodes.now a.rules.now a.steps.now a.c a.u a.step ok k (found), omega (arith, size a.nodes.now a.rules.now a.steps.now a.c a.u a.step ok k (found), c.requires.step_in_bounds))
+    let k = c.in-Some.i in
+    rw c.at-r.ensures ((table-room a.rules.now a.steps.now a.u ok).step_room, inside a.nodes.now a.rules.now a.steps.now a.c a.u a.step ok k (found), omega (arith, size a.nodes.now a.rules.now a.steps.now a.c a.u a.step ok k (found), c.requires.step_in_bounds))
 
 pub returns : goal.returns
 returns c =
-    let found : RuleFound c.args.u.rules c.args.rules.now (id_of (handle c.args.step)) (len c.args.nodes.now c.args.rules.now c.args.steps.now c.args.c c.args.u c.args.step) c.in-At.i =
+    let found : RuleFound c.args.u.rules c.args.rules.now (id_of (handle c.args.step)) (len c.args.nodes.now c.args.rules.now c.args.steps.now c.args.c c.args.u c.args.step) c.in-Some.i =
     let a = c.args in
-    rule_found a.u.rules a.rules.now (id_of (handle a.step)) (len a.nodes.now a.rules.now a.steps.now a.c a.u a.step) c.in-At.i (looked_up (nodes_of a.c.nodes a.nodes.now) (rules_of a.u.rules a.rules.now) (handle a.step) c.id-id.result c.node_len-len.result c.id-id.ensures c.node_len-len.ensures (sym c.in-At.is ∙ c.find_rule.ensures))
+    rule_found a.u.rules a.rules.now (id_of (handle a.step)) (len a.nodes.now a.rules.now a.steps.now a.c a.u a.step) c.in-Some.i (looked_up (nodes_of a.c.nodes a.nodes.now) (rules_of a.u.rules a.rules.now) (handle a.step) c.id-id.result c.node_len-len.result c.id-id.ensures c.node_len-len.ensures (sym c.in-Some.is ∙ c.find_rule.ensures.value))
     in
     let a = c.args in
-    let m = c.put_image.ensures in
-    written a.nodes.now a.rules.now a.steps.now a.c a.u a.step c.requires.nodes_in_bounds.1 c.in-At.i (found) c.direction.result c.direction.ensures m
+    let m = rw c.at-r.ensures at c.put_image.ensures in
+    written a.nodes.now a.rules.now a.steps.now a.c a.u a.step c.requires.nodes_in_bounds.1 c.in-Some.i (found) c.direction.result c.direction.ensures m

@@ -34,13 +34,13 @@ loop-i-init c =
 pub transform_node-at-requires : goal.transform_node-at-requires
 transform_node-at-requires c =
     let a = c.args in
-    record { nodes_in_bounds = c.requires.nodes_in_bounds; step_in_bounds = step_room a.nodes.now a.c a.rules.now a.steps.now a.u a.walk.now c.loop-i.invariant c.loop-i-test.true }
+    record { nodes_in_bounds = c.requires.nodes_in_bounds; step_in_bounds = step_room a.nodes.now a.c a.rules.now a.steps.now a.u a.walk.now c.loop-i.invariant (omega arith) }
 
 pub loop-i-preserved : goal.loop-i-preserved
-loop-i-preserved c = writing-next c.loop-i.invariant c.loop-i-test.true c.transform_node-at.ensures
+loop-i-preserved c = writing-next c.loop-i.invariant (omega arith) c.transform_node-at.ensures
 
 pub returns : goal.returns
 returns c =
     let a = c.args in
-    writing-all c.loop-i.invariant c.loop-i-test.false (enough a.nodes.now a.c a.rules.now a.steps.now a.u a.walk.now a.out.now c.requires.walk_in_bounds)
+    writing-all c.loop-i.invariant (omega arith) (enough a.nodes.now a.c a.rules.now a.steps.now a.u a.walk.now a.out.now c.requires.walk_in_bounds)
     ∙ ap (λ (l : List ℕ). over l a.out.now) (whole a.nodes.now a.c a.rules.now a.steps.now a.u a.walk.now)

@@ -1,7 +1,6 @@
-use Prim.Native.Nat.{ℕ, ◌-◌}
+use Prim.Native.Nat.{ℕ}
 use mathlib.Core.List.{[], List}
 use borrow.Author.Rules.{rules}
-use lib.ListN.{length}
 use Rattle.handle.specs.declared.Handle.{Handle}
 use Rattle.store.specs.declared.Counts.{Counts}
 use Rattle.store.specs.Graph.{graph_of}
@@ -18,6 +17,3 @@ image nodes c rules steps u h = numbers (transform_node (graph_of nodes [] [] c)
 
 abbrev pub invariant-loop-i : goal.invariant-loop-i
 invariant-loop-i l = Writing (image l.nodes l.c l.rules l.steps l.u) l.walk l.initial.out l.out l.at l.i
-
-abbrev pub decreases-loop-i : goal.decreases-loop-i
-decreases-loop-i l = length l.walk - l.i

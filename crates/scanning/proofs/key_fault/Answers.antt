@@ -11,7 +11,9 @@ use Rattle.handle.specs.Handle.{pack}
 use Rattle.store.specs.Graph.{Graph, graph_of}
 use Rattle.store.specs.Views.{spell}
 use Rattle.events.specs.declared.Used.{Used}
-use Rattle.events.specs.Events.{Rule, Step, rule, rules_of, steps_of}
+use Rattle.events.specs.Events.{rule, rules_of, steps_of}
+use Rattle.events.specs.declared.Rule.{Rule}
+use Rattle.events.specs.declared.Step.{Step}
 use Rattle.events.proofs.Fields.{rule_at, rule_is}
 use Rattle.events.proofs.Order.{walk_is}
 use Rattle.spelling.specs.Spelling.{spell_walk}
@@ -44,10 +46,10 @@ returns-then-not-lengths_sum c =
     let new = graph_of a.nodes.now a.text.now [] a.d in
     let ss = steps_of a.u.steps a.steps.now in
     let r = get_or (rules_of a.u.rules a.rules.now) a.i (rule 0 0 0 0) in
-    other-sum old new ss r (sums old new a.rules.now a.steps.now a.u a.i (omega arith) c.requires.i_bound ∙ sym c.lengths_sum.ensures ∙ not-true c.lengths_sum.result c.if-not-lengths_sum.true-raw)
+    other-sum old new ss r (sums old new a.rules.now a.steps.now a.u a.i (omega arith) c.requires.i_bound ∙ sym (rw c.at-r.ensures at c.lengths_sum.ensures) ∙ not-true c.lengths_sum.result c.if-not-lengths_sum.true-raw)
 
 pub spells_key-requires : goal.spells_key-requires
-spells_key-requires c = (c.requires.readable.0, c.requires.readable.1, omega arith)
+spells_key-requires c = rw c.at-r.ensures (c.requires.readable.0, c.requires.readable.1, omega arith)
 
 pub returns-then-not-spells_key : goal.returns-then-not-spells_key
 returns-then-not-spells_key c =
@@ -56,7 +58,7 @@ returns-then-not-spells_key c =
     let new = graph_of a.nodes.now a.text.now [] a.d in
     let ss = steps_of a.u.steps a.steps.now in
     let r = get_or (rules_of a.u.rules a.rules.now) a.i (rule 0 0 0 0) in
-    other-spelling old new ss r (sums old new a.rules.now a.steps.now a.u a.i (omega arith) c.requires.i_bound ∙ sym c.lengths_sum.ensures ∙ not-false c.lengths_sum.result c.if-not-lengths_sum.false-raw) (spells old new a.rules.now a.steps.now a.u a.i (omega arith) c.requires.i_bound ∙ sym c.spells_key.ensures ∙ not-true c.spells_key.result c.if-not-spells_key.true-raw)
+    other-spelling old new ss r (sums old new a.rules.now a.steps.now a.u a.i (omega arith) c.requires.i_bound ∙ sym (rw c.at-r.ensures at c.lengths_sum.ensures) ∙ not-false c.lengths_sum.result c.if-not-lengths_sum.false-raw) (spells old new a.rules.now a.steps.now a.u a.i (omega arith) c.requires.i_bound ∙ sym (c.spells_key.ensures ∙ ap (λ (x : Rule). not (is_old_key old (rule x.id x.len 0 0)) || same_spelling (spell old (pack x.id 0)) (spelled new a.steps.now (x.first + x.steps) x.first)) c.at-r.ensures) ∙ not-true c.spells_key.result c.if-not-spells_key.true-raw)
 
 pub returns : goal.returns
 returns c =
@@ -65,4 +67,4 @@ returns c =
     let new = graph_of a.nodes.now a.text.now [] a.d in
     let ss = steps_of a.u.steps a.steps.now in
     let r = get_or (rules_of a.u.rules a.rules.now) a.i (rule 0 0 0 0) in
-    key_passes old new ss r (sums old new a.rules.now a.steps.now a.u a.i (omega arith) c.requires.i_bound ∙ sym c.lengths_sum.ensures ∙ not-false c.lengths_sum.result c.if-not-lengths_sum.false-raw) (spells old new a.rules.now a.steps.now a.u a.i (omega arith) c.requires.i_bound ∙ sym c.spells_key.ensures ∙ not-false c.spells_key.result c.if-not-spells_key.false-raw)
+    key_passes old new ss r (sums old new a.rules.now a.steps.now a.u a.i (omega arith) c.requires.i_bound ∙ sym (rw c.at-r.ensures at c.lengths_sum.ensures) ∙ not-false c.lengths_sum.result c.if-not-lengths_sum.false-raw) (spells old new a.rules.now a.steps.now a.u a.i (omega arith) c.requires.i_bound ∙ sym (c.spells_key.ensures ∙ ap (λ (x : Rule). not (is_old_key old (rule x.id x.len 0 0)) || same_spelling (spell old (pack x.id 0)) (spelled new a.steps.now (x.first + x.steps) x.first)) c.at-r.ensures) ∙ not-false c.spells_key.result c.if-not-spells_key.false-raw)

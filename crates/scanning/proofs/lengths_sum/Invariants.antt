@@ -1,4 +1,3 @@
-use Prim.Native.Nat.{◌-◌}
 use mathlib.Core.Path.{◌≡◌}
 use lib.Dec.{eqb}
 use lib.ListN.{drop}
@@ -8,6 +7,3 @@ use Rattle.scanning.proofs.lengths_sum.Given as goal
 
 abbrev pub invariant-loop-j : goal.invariant-loop-j
 invariant-loop-j l = eqb (recorded (drop l.j (steps_of l.end l.steps))) l.left ≡ eqb (recorded (drop l.first (steps_of l.end l.steps))) l.len
-
-abbrev pub decreases-loop-j : goal.decreases-loop-j
-decreases-loop-j l = l.end - l.j

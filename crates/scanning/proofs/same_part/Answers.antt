@@ -13,7 +13,7 @@ returns-then-not-same_letter c =
     let p = length-read a.old_text.now a.r (omega arith) in
     let q = length-read a.text.now a.s (omega arith) in
     let e = ap₂ same_letter (sym c.letter-a.ensures) (sym c.letter.ensures) ∙ sym c.same_letter.ensures ∙ not-true c.same_letter.result c.if-not-same_letter.true-raw in
-    sym (part_miss (read a.old_text.now a.r) (read a.text.now a.s) a.off a.s.len c.loop-k.k (omega arith) q (omega arith) e) ∙ c.loop-k.invariant.1
+    sym (part_miss (read a.old_text.now a.r) (read a.text.now a.s) a.off a.s.len c.loop-k.k (omega arith) q (omega arith) e) ∙ c.loop-k.invariant
 
 pub loop-k-preserved : goal.loop-k-preserved
 loop-k-preserved c =
@@ -21,11 +21,11 @@ loop-k-preserved c =
     let p = length-read a.old_text.now a.r (omega arith) in
     let q = length-read a.text.now a.s (omega arith) in
     let e = ap₂ same_letter (sym c.letter-a.ensures) (sym c.letter.ensures) ∙ sym c.same_letter.ensures ∙ not-false c.same_letter.result c.if-not-same_letter.false-raw in
-    (omega arith, sym (part_hit (read a.old_text.now a.r) (read a.text.now a.s) a.off a.s.len c.loop-k.k (omega arith) q (omega arith) e) ∙ c.loop-k.invariant.1)
+    sym (part_hit (read a.old_text.now a.r) (read a.text.now a.s) a.off a.s.len c.loop-k.k (omega arith) q (omega arith) e) ∙ c.loop-k.invariant
 
 pub returns : goal.returns
 returns c =
     let a = c.args in
     let p = length-read a.old_text.now a.r (omega arith) in
     let q = length-read a.text.now a.s (omega arith) in
-    sym (part-done (read a.old_text.now a.r) (read a.text.now a.s) a.off a.s.len c.loop-k.k (omega arith) q c.loop-k-test.false) ∙ c.loop-k.invariant.1
+    sym (part-done (read a.old_text.now a.r) (read a.text.now a.s) a.off a.s.len c.loop-k.k (omega arith) q (omega arith)) ∙ c.loop-k.invariant

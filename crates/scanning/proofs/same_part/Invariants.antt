@@ -1,4 +1,3 @@
-use Prim.Native.Nat.{◌-◌, ◌≤◌}
 use mathlib.Core.Path.{◌≡◌}
 use lib.ListN.{take, drop}
 use Rattle.letters.specs.Sequences.{same_spelling}
@@ -6,7 +5,4 @@ use Rattle.affix.specs.Reading.{read}
 use Rattle.scanning.proofs.same_part.Given as goal
 
 abbrev pub invariant-loop-k : goal.invariant-loop-k
-invariant-loop-k l = (l.k ≤ l.len) × (same_spelling (drop l.k (take l.len (drop l.off (read l.old_text l.r)))) (drop l.k (read l.text l.s)) ≡ same_spelling (take l.len (drop l.off (read l.old_text l.r))) (read l.text l.s))
-
-abbrev pub decreases-loop-k : goal.decreases-loop-k
-decreases-loop-k l = l.len - l.k
+invariant-loop-k l = same_spelling (drop l.k (take l.len (drop l.off (read l.old_text l.r)))) (drop l.k (read l.text l.s)) ≡ same_spelling (take l.len (drop l.off (read l.old_text l.r))) (read l.text l.s)

@@ -9,6 +9,7 @@ use lib.ListN.{length, take, drop, get_or}
 use Rattle.letters.specs.Sequences.{same_spelling}
 use Rattle.store.specs.declared.Counts.{Counts}
 use Rattle.store.specs.Graph.{Graph, handle, nodes_of, graph_of}
+use Rattle.events.specs.declared.Step.{Step}
 use Rattle.affix.specs.declared.Reading.{Reading}
 use Rattle.affix.specs.Reading.{Readable, reading_of, read}
 use Rattle.affix.proofs.LookedUp.{inside, reads, length-read}
@@ -41,28 +42,28 @@ returns-then-len-off c =
     let a = c.args in
     let l = read a.old_text.now a.r in
     let size = length-read a.old_text.now a.r (omega arith) in
-    sym (short a.nodes.now a.text.now a.steps.now a.d c.requires.readable l a.end c.loop-j.j c.loop-j.off (omega arith) c.look_up-s.result c.look_up-s.ensures (omega arith)) ∙ c.loop-j.invariant.1
+    sym (short a.nodes.now a.text.now a.steps.now a.d c.requires.readable l a.end c.loop-j.j c.loop-j.off (omega arith) c.look_up-s.result (c.look_up-s.ensures ∙ ap (λ (x : Step). reading_of (nodes_of a.d.nodes a.nodes.now) x.node) c.at.ensures) (omega arith)) ∙ c.loop-j.invariant.1
 
 pub same_part-requires : goal.same_part-requires
 same_part-requires c =
     let a = c.args in
     let l = read a.old_text.now a.r in
     let size = length-read a.old_text.now a.r (omega arith) in
-    (omega arith, lies a.nodes.now a.text.now a.steps.now a.d c.requires.readable l a.end c.loop-j.j c.loop-j.off (omega arith) c.look_up-s.result c.look_up-s.ensures, omega arith)
+    (omega arith, lies a.nodes.now a.text.now a.steps.now a.d c.requires.readable l a.end c.loop-j.j c.loop-j.off (omega arith) c.look_up-s.result (c.look_up-s.ensures ∙ ap (λ (x : Step). reading_of (nodes_of a.d.nodes a.nodes.now) x.node) c.at.ensures), omega arith)
 
 pub returns-then-not-same_part : goal.returns-then-not-same_part
 returns-then-not-same_part c =
     let a = c.args in
     let l = read a.old_text.now a.r in
     let size = length-read a.old_text.now a.r (omega arith) in
-    sym (miss a.nodes.now a.text.now a.steps.now a.d c.requires.readable l a.end c.loop-j.j c.loop-j.off (omega arith) c.look_up-s.result c.look_up-s.ensures (omega arith) (sym c.same_part.ensures ∙ not-true c.same_part.result c.if-not-same_part.true-raw)) ∙ c.loop-j.invariant.1
+    sym (miss a.nodes.now a.text.now a.steps.now a.d c.requires.readable l a.end c.loop-j.j c.loop-j.off (omega arith) c.look_up-s.result (c.look_up-s.ensures ∙ ap (λ (x : Step). reading_of (nodes_of a.d.nodes a.nodes.now) x.node) c.at.ensures) (omega arith) (sym c.same_part.ensures ∙ not-true c.same_part.result c.if-not-same_part.true-raw)) ∙ c.loop-j.invariant.1
 
 pub loop-j-preserved : goal.loop-j-preserved
 loop-j-preserved c =
     let a = c.args in
     let l = read a.old_text.now a.r in
     let size = length-read a.old_text.now a.r (omega arith) in
-    (omega arith, sym (hit a.nodes.now a.text.now a.steps.now a.d c.requires.readable l a.end c.loop-j.j c.loop-j.off (omega arith) c.look_up-s.result c.look_up-s.ensures (omega arith) (sym c.same_part.ensures ∙ not-false c.same_part.result c.if-not-same_part.false-raw)) ∙ c.loop-j.invariant.1)
+    (omega arith, sym (hit a.nodes.now a.text.now a.steps.now a.d c.requires.readable l a.end c.loop-j.j c.loop-j.off (omega arith) c.look_up-s.result (c.look_up-s.ensures ∙ ap (λ (x : Step). reading_of (nodes_of a.d.nodes a.nodes.now) x.node) c.at.ensures) (omega arith) (sym c.same_part.ensures ∙ not-false c.same_part.result c.if-not-same_part.false-raw)) ∙ c.loop-j.invariant.1)
 
 pub returns : goal.returns
 returns c =
@@ -70,4 +71,4 @@ returns c =
     let l = read a.old_text.now a.r in
     let size = length-read a.old_text.now a.r (omega arith) in
     ap (λ (n : ℕ). eqb c.loop-j.off n) (sym size)
-    ∙ walk_done (graph_of a.nodes.now a.text.now [] a.d) l a.steps.now a.end c.loop-j.j c.loop-j.off c.loop-j-test.false (omega arith) ∙ c.loop-j.invariant.1
+    ∙ walk_done (graph_of a.nodes.now a.text.now [] a.d) l a.steps.now a.end c.loop-j.j c.loop-j.off (omega arith) (omega arith) ∙ c.loop-j.invariant.1

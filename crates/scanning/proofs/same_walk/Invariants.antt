@@ -1,5 +1,5 @@
 use mathlib.Core.List.{[]}
-use Prim.Native.Nat.{◌-◌, ◌≤◌}
+use Prim.Native.Nat.{◌≤◌}
 use mathlib.Core.Path.{◌≡◌}
 use lib.ListN.{drop}
 use Rattle.letters.specs.Sequences.{same_spelling}
@@ -10,6 +10,3 @@ use Rattle.scanning.proofs.same_walk.Given as goal
 
 abbrev pub invariant-loop-j : goal.invariant-loop-j
 invariant-loop-j l = (l.off ≤ l.len) × (same_spelling (drop l.off (read l.old_text l.r)) (spelled (graph_of l.nodes l.text [] l.d) l.steps l.end l.j) ≡ same_spelling (read l.old_text l.r) (spelled (graph_of l.nodes l.text [] l.d) l.steps l.end l.first))
-
-abbrev pub decreases-loop-j : goal.decreases-loop-j
-decreases-loop-j l = l.end - l.j

@@ -1,17 +1,18 @@
-use Prim.Native.Nat.{ℕ, ◌+◌, ◌*◌, ◌≤◌}
+use Prim.Native.Nat.{ℕ, ◌+◌, ◌*◌}
 use mathlib.Core.Path.{◌≡◌, sym, ap, ap₂, ◌∙◌}
 use mathlib.Core.Bool.{Bool, true, not, ◌&&◌, ◌||◌}
 use mathlib.Core.List.{[], List}
 use native.Mathlib.Omega.{arith}
 use borrow.Author.Tests.{eq-eqb, ne_eqb}
 use lib.Dec.{eqb}
-use lib.ListN.{length, get_or}
-use Rattle.kit.specs.declared.Found.TheVariants.{Nothing}
+use lib.ListN.{get_or}
+use Rattle.std.specs.Prelude.{None}
 use Rattle.letters.specs.Sequences.{same_spelling}
 use Rattle.handle.specs.Handle.{pack}
 use Rattle.handle.proofs.Handles.{id-pack, dir_pack}
 use Rattle.store.specs.declared.Counts.{Counts}
-use Rattle.store.specs.Graph.{Node, Graph, nodes_of, graph_of}
+use Rattle.store.specs.Graph.{Graph, nodes_of, graph_of}
+use Rattle.store.specs.declared.Node.{Node}
 use Rattle.store.specs.Views.{find_node, node_named}
 use Rattle.store.proofs.Lookups.{NodeFound, node-found, node_nowhere}
 use Rattle.affix.specs.declared.Reading.{Reading}
@@ -33,7 +34,7 @@ module _ (nodes text : List ℕ) (c : Counts) (id len : ℕ) (x : Bool) where
   abbrev passes : Bool
   passes = not (is_old_key old (rule id len 0 0)) || x
 
-  not-old : find_node id (nodes_of c.nodes nodes) ≡ Nothing → true ≡ passes
+  not-old : find_node id (nodes_of c.nodes nodes) ≡ None → true ≡ passes
   not-old q = rw (node_nowhere id (nodes_of c.nodes nodes) q)
 
   module _ (i : ℕ) (f : NodeFound c.nodes nodes id i) where
@@ -58,125 +59,37 @@ find_node-requires c = c.requires.0.node_room
 pub returns-in_default : goal.returns-in_default
 returns-in_default c =
     let a = c.args in
-    not-old a.old_nodes.now a.old_text.now a.c a.id a.len _ (sym c.find_node.ensures ∙ c.in_default.is)
+    not-old a.old_nodes.now a.old_text.now a.c a.id a.len _ (sym c.find_node.ensures.value ∙ c.in_default.is)
 
-pub overflow_mul-i : goal.overflow_mul-i
-overflow_mul-i c =
-    let found : NodeFound c.args.c.nodes c.args.old_nodes.now c.args.id c.in-At.i =
+pub returns-then-old-len : goal.returns-then-old-len
+returns-then-old-len c =
+    let found : NodeFound c.args.c.nodes c.args.old_nodes.now c.args.id c.in-Some.i =
     let a = c.args in
-    node-found a.c.nodes a.old_nodes.now a.id c.in-At.i (sym c.find_node.ensures ∙ c.in-At.is)
-    in
-    let room : 4 * c.args.c.nodes ≤ length c.args.old_nodes.now =
-    c.requires.0.node_room
-    in
-    omega (arith, (found).within, room)
-
-pub overflow_add-i : goal.overflow_add-i
-overflow_add-i c =
-    let found : NodeFound c.args.c.nodes c.args.old_nodes.now c.args.id c.in-At.i =
-    let a = c.args in
-    node-found a.c.nodes a.old_nodes.now a.id c.in-At.i (sym c.find_node.ensures ∙ c.in-At.is)
-    in
-    let room : 4 * c.args.c.nodes ≤ length c.args.old_nodes.now =
-    c.requires.0.node_room
-    in
-    omega (arith, (found).within, room)
-
-pub offset_bounds-old_nodes-i : goal.offset_bounds-old_nodes-i
-offset_bounds-old_nodes-i c =
-    let found : NodeFound c.args.c.nodes c.args.old_nodes.now c.args.id c.in-At.i =
-    let a = c.args in
-    node-found a.c.nodes a.old_nodes.now a.id c.in-At.i (sym c.find_node.ensures ∙ c.in-At.is)
-    in
-    let room : 4 * c.args.c.nodes ≤ length c.args.old_nodes.now =
-    c.requires.0.node_room
-    in
-    omega (arith, (found).within, room)
-
-pub bounds-old_nodes-i : goal.bounds-old_nodes-i
-bounds-old_nodes-i c =
-    let found : NodeFound c.args.c.nodes c.args.old_nodes.now c.args.id c.in-At.i =
-    let a = c.args in
-    node-found a.c.nodes a.old_nodes.now a.id c.in-At.i (sym c.find_node.ensures ∙ c.in-At.is)
-    in
-    let room : 4 * c.args.c.nodes ≤ length c.args.old_nodes.now =
-    c.requires.0.node_room
-    in
-    omega (arith, (found).within, room)
-
-pub returns-then-old_nodes-i : goal.returns-then-old_nodes-i
-returns-then-old_nodes-i c =
-    let found : NodeFound c.args.c.nodes c.args.old_nodes.now c.args.id c.in-At.i =
-    let a = c.args in
-    node-found a.c.nodes a.old_nodes.now a.id c.in-At.i (sym c.find_node.ensures ∙ c.in-At.is)
+    node-found a.c.nodes a.old_nodes.now a.id c.in-Some.i (sym c.find_node.ensures.value ∙ c.in-Some.is)
     in
     let a = c.args in
-    other_length a.old_nodes.now a.old_text.now a.c a.id a.len _ c.in-At.i (found) c.if-old_nodes-i.true
-
-pub overflow_mul-r : goal.overflow_mul-r
-overflow_mul-r c =
-    let found : NodeFound c.args.c.nodes c.args.old_nodes.now c.args.id c.in-At.i =
-    let a = c.args in
-    node-found a.c.nodes a.old_nodes.now a.id c.in-At.i (sym c.find_node.ensures ∙ c.in-At.is)
-    in
-    let room : 4 * c.args.c.nodes ≤ length c.args.old_nodes.now =
-    c.requires.0.node_room
-    in
-    omega (arith, (found).within, room)
-
-pub overflow_add-r : goal.overflow_add-r
-overflow_add-r c =
-    let found : NodeFound c.args.c.nodes c.args.old_nodes.now c.args.id c.in-At.i =
-    let a = c.args in
-    node-found a.c.nodes a.old_nodes.now a.id c.in-At.i (sym c.find_node.ensures ∙ c.in-At.is)
-    in
-    let room : 4 * c.args.c.nodes ≤ length c.args.old_nodes.now =
-    c.requires.0.node_room
-    in
-    omega (arith, (found).within, room)
-
-pub offset_bounds-old_nodes-i-2 : goal.offset_bounds-old_nodes-i-2
-offset_bounds-old_nodes-i-2 c =
-    let found : NodeFound c.args.c.nodes c.args.old_nodes.now c.args.id c.in-At.i =
-    let a = c.args in
-    node-found a.c.nodes a.old_nodes.now a.id c.in-At.i (sym c.find_node.ensures ∙ c.in-At.is)
-    in
-    let room : 4 * c.args.c.nodes ≤ length c.args.old_nodes.now =
-    c.requires.0.node_room
-    in
-    omega (arith, (found).within, room)
-
-pub bounds-old_nodes-i-2 : goal.bounds-old_nodes-i-2
-bounds-old_nodes-i-2 c =
-    let found : NodeFound c.args.c.nodes c.args.old_nodes.now c.args.id c.in-At.i =
-    let a = c.args in
-    node-found a.c.nodes a.old_nodes.now a.id c.in-At.i (sym c.find_node.ensures ∙ c.in-At.is)
-    in
-    let room : 4 * c.args.c.nodes ≤ length c.args.old_nodes.now =
-    c.requires.0.node_room
-    in
-    omega (arith, (found).within, room)
+    other_length a.old_nodes.now a.old_text.now a.c a.id a.len _ c.in-Some.i (found) (λ q. c.if-old-len.true (ap (λ (r : Node). r.len) c.at-old.ensures ∙ q))
 
 pub same_walk-requires : goal.same_walk-requires
 same_walk-requires c =
-    let found : NodeFound c.args.c.nodes c.args.old_nodes.now c.args.id c.in-At.i =
+    let found : NodeFound c.args.c.nodes c.args.old_nodes.now c.args.id c.in-Some.i =
     let a = c.args in
-    node-found a.c.nodes a.old_nodes.now a.id c.in-At.i (sym c.find_node.ensures ∙ c.in-At.is)
+    node-found a.c.nodes a.old_nodes.now a.id c.in-Some.i (sym c.find_node.ensures.value ∙ c.in-Some.is)
     in
     let a = c.args in
-    let e = at_key a.old_nodes.now a.old_text.now a.c a.id a.len true c.in-At.i (found) c.if-old_nodes-i.false in
-    record { len_in_bounds = (inside a.old_nodes.now a.old_text.now a.c c.requires.0 (pack a.id 0) _ e, c.requires.2); readable = c.requires.1 }
+    let e = at_key a.old_nodes.now a.old_text.now a.c a.id a.len true c.in-Some.i (found) (sym (ap (λ (r : Node). r.len) c.at-old.ensures) ∙ c.if-old-len.false) in
+    rw c.at-old.ensures (record { len_in_bounds = (inside a.old_nodes.now a.old_text.now a.c c.requires.0 (pack a.id 0) _ e, c.requires.2); readable = c.requires.1 })
 
 pub returns : goal.returns
 returns c =
-    let found : NodeFound c.args.c.nodes c.args.old_nodes.now c.args.id c.in-At.i =
+    let found : NodeFound c.args.c.nodes c.args.old_nodes.now c.args.id c.in-Some.i =
     let a = c.args in
-    node-found a.c.nodes a.old_nodes.now a.id c.in-At.i (sym c.find_node.ensures ∙ c.in-At.is)
+    node-found a.c.nodes a.old_nodes.now a.id c.in-Some.i (sym c.find_node.ensures.value ∙ c.in-Some.is)
     in
     let a = c.args in
-    let l = c.if-old_nodes-i.false in
-    let e = at_key a.old_nodes.now a.old_text.now a.c a.id a.len true c.in-At.i (found) l in
+    let l = (sym (ap (λ (r : Node). r.len) c.at-old.ensures) ∙ c.if-old-len.false) in
+    let e = at_key a.old_nodes.now a.old_text.now a.c a.id a.len true c.in-Some.i (found) l in
     let w = spelled (graph_of a.nodes.now a.text.now [] a.d) a.steps.now a.end a.first in
-    c.same_walk.ensures
+    (rw c.at-old.ensures at c.same_walk.ensures)
     ∙ ap (λ (t : List ℕ). same_spelling t w) (reads a.old_nodes.now a.old_text.now a.c c.requires.0 (pack a.id 0) _ e)
-    ∙ is_old a.old_nodes.now a.old_text.now a.c a.id a.len _ c.in-At.i (found) l
+    ∙ is_old a.old_nodes.now a.old_text.now a.c a.id a.len _ c.in-Some.i (found) l

@@ -14,6 +14,6 @@ returns c =
     let found : ℕ → List Handle → ℕ = lowest a.above in
     c.offer.ensures
     ∙ ap₂ found
-    (c.offer-other.ensures ∙ ap₂ (λ (t : Bool) (h : Handle). found a.best (cond t (h ∷ []) [])) (c.same.ensures ∙ ap (λ (h : Handle). same_handle h a.v) c.flip-near.ensures) c.flip.ensures)
-    (ap (λ (t : Bool). cond t (a.to ∷ []) []) c.same-2.ensures)
-    ∙ sym (lowest-append a.above a.best (cond (same_handle a.from a.v) (a.to ∷ []) []) (cond (same_handle (flip a.to) a.v) (flip a.from ∷ []) []))
+    (c.offer-other.ensures ∙ ap₂ (λ (t : Bool) (h : Handle). found a.best (cond t (h ∷ []) [])) (c.eq.ensures ∙ ap (λ (h : Handle). same_handle h a.v) c.flip-near.ensures) c.flip.ensures)
+    (ap (λ (t : Bool). cond t (a.l.to ∷ []) []) c.eq-2.ensures)
+    ∙ sym (lowest-append a.above a.best (cond (same_handle a.l.from a.v) (a.l.to ∷ []) []) (cond (same_handle (flip a.l.to) a.v) (flip a.l.from ∷ []) []))

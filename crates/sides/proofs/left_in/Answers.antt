@@ -10,7 +10,9 @@ use Rattle.kit.proofs.Laws.{left_none}
 use Rattle.kit.proofs.Meaning.{all_append}
 use Rattle.handle.specs.declared.Handle.{Handle}
 use Rattle.handle.specs.Edge.{edge}
-use Rattle.store.specs.Graph.{Node, link_layout, links_of}
+use Rattle.store.specs.Graph.{link_layout, links_of}
+use Rattle.store.specs.declared.Node.{Node}
+use Rattle.store.specs.declared.Link.{Link}
 use Rattle.store.specs.Views.{live_link, live_linked}
 use Rattle.store.proofs.Fields.{link_at, left-link}
 use Rattle.sides.specs.Sides.{bare, left_ends}
@@ -40,27 +42,24 @@ pub loop-i-init : goal.loop-i-init
 loop-i-init c =
     let a = c.args in
     let g = bare a.nodes.now a.links.now a.c in
-    (omega arith, sym (all-rising (λ w. live_linked g (edge w a.v)) (lines (left_ends a.u) (keep (live_link g.nodes) g.links))))
+    sym (all-rising (λ w. live_linked g (edge w a.v)) (lines (left_ends a.u) (keep (live_link g.nodes) g.links)))
 
 pub returns-then-live_link : goal.returns-then-live_link
 returns-then-live_link c =
     let a = c.args in
     let g = bare a.nodes.now a.links.now a.c in
-    sym (fail (λ w. live_linked g (edge w a.v)) a.u g.nodes a.c.links a.links.now c.loop-i.i (omega arith) (sym c.live_link.ensures ∙ c.if-live_link.true) (sym c.shared.ensures ∙ not-true _ c.if-not-shared.true-raw)) ∙ c.loop-i.invariant.1
+    sym (fail (λ w. live_linked g (edge w a.v)) a.u g.nodes a.c.links a.links.now c.loop-i.i (omega arith) (ap (live_link g.nodes) (sym c.at-l.ensures) ∙ sym c.live_link.ensures ∙ c.if-live_link.true) (ap (λ (r : Link). all (λ w. live_linked g (edge w a.v)) (left_ends a.u r)) (sym c.at-l.ensures) ∙ sym c.shared.ensures ∙ not-true _ c.if-not-shared.true-raw)) ∙ c.loop-i.invariant
 
 pub loop-i-preserved : goal.loop-i-preserved
 loop-i-preserved c =
     let a = c.args in
-    let g = bare a.nodes.now a.links.now a.c in (
-      omega arith,
-      elim c.if-not-shared.branch [
-        | then-not-shared+else-live_link w ↦ sym (dead (λ w. live_linked g (edge w a.v)) a.u g.nodes a.c.links a.links.now c.loop-i.i (omega arith) (sym w.live_link.ensures ∙ w.if-live_link.false))
-        | else-not-shared w ↦ sym (pass (λ w. live_linked g (edge w a.v)) a.u g.nodes a.c.links a.links.now c.loop-i.i (omega arith) (sym c.shared.ensures ∙ not-false _ w.if-not-shared.false-raw))
-      ]
-          ∙ c.loop-i.invariant.1,
-    )
+    let g = bare a.nodes.now a.links.now a.c in elim c.if-not-shared.branch [
+      | then-not-shared+else-live_link w ↦ sym (dead (λ w. live_linked g (edge w a.v)) a.u g.nodes a.c.links a.links.now c.loop-i.i (omega arith) (ap (live_link g.nodes) (sym c.at-l.ensures) ∙ sym w.live_link.ensures ∙ w.if-live_link.false))
+      | else-not-shared w ↦ sym (pass (λ w. live_linked g (edge w a.v)) a.u g.nodes a.c.links a.links.now c.loop-i.i (omega arith) (ap (λ (r : Link). all (λ w. live_linked g (edge w a.v)) (left_ends a.u r)) (sym c.at-l.ensures) ∙ sym c.shared.ensures ∙ not-false _ w.if-not-shared.false-raw))
+    ]
+    ∙ c.loop-i.invariant
 
 pub returns : goal.returns
 returns c =
     let a = c.args in
-    sym (rw (left_none link_layout a.c.links c.loop-i.i a.links.now (omega arith))) ∙ c.loop-i.invariant.1
+    sym (rw (left_none link_layout a.c.links c.loop-i.i a.links.now (omega arith))) ∙ c.loop-i.invariant

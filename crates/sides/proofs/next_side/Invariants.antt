@@ -1,11 +1,7 @@
-use Prim.Native.Nat.{◌≤◌}
 use mathlib.Core.Path.{◌≡◌}
 use Rattle.store.specs.Graph.{nodes_of}
 use Rattle.sides.proofs.Search.{from_slot}
 use Rattle.sides.proofs.next_side.Given as goal
 
 abbrev pub invariant-loop-i : goal.invariant-loop-i
-invariant-loop-i l = (l.i ≤ l.c.links) × (l.best ≡ from_slot l.left l.v l.above (nodes_of l.c.nodes l.nodes) l.c.links l.links l.i)
-
-abbrev pub decreases-loop-i : goal.decreases-loop-i
-decreases-loop-i l = l.i
+invariant-loop-i l = l.best ≡ from_slot l.left l.v l.above (nodes_of l.c.nodes l.nodes) l.c.links l.links l.i

@@ -22,14 +22,14 @@ pub returns-then-among : goal.returns-then-among
 returns-then-among c =
     let a = c.args in
     let p : Handle → Bool = λ h. live_linked (bare a.nodes.now a.links.now a.c) (edge h a.v) in
-    let first = ap (λ (t : Bool). all p (cond t (a.from ∷ []) [])) (sym c.same.ensures) ∙ sym c.among.ensures in
+    let first = ap (λ (t : Bool). all p (cond t (a.l.from ∷ []) [])) (sym c.eq.ensures) ∙ sym c.among.ensures in
     c.among-then-among.ensures
-    ∙ ap₂ (λ (t : Bool) (h : Handle). all p (cond t (h ∷ []) [])) (c.same-then-among.ensures ∙ ap (λ (h : Handle). same_handle h a.u) c.flip-near.ensures) c.flip.ensures
-    ∙ sym (split p a.u a.from a.to true (first ∙ c.if-among.true))
+    ∙ ap₂ (λ (t : Bool) (h : Handle). all p (cond t (h ∷ []) [])) (c.eq-then-among.ensures ∙ ap (λ (h : Handle). same_handle h a.u) c.flip-near.ensures) c.flip.ensures
+    ∙ sym (split p a.u a.l.from a.l.to true (first ∙ c.if-among.true))
 
 pub returns-else-among : goal.returns-else-among
 returns-else-among c =
     let a = c.args in
     let p : Handle → Bool = λ h. live_linked (bare a.nodes.now a.links.now a.c) (edge h a.v) in
-    let first = ap (λ (t : Bool). all p (cond t (a.from ∷ []) [])) (sym c.same.ensures) ∙ sym c.among.ensures in
-    c.if-among.false ∙ sym (split p a.u a.from a.to false (first ∙ c.if-among.false))
+    let first = ap (λ (t : Bool). all p (cond t (a.l.from ∷ []) [])) (sym c.eq.ensures) ∙ sym c.among.ensures in
+    c.if-among.false ∙ sym (split p a.u a.l.from a.l.to false (first ∙ c.if-among.false))

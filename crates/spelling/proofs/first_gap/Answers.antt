@@ -25,7 +25,7 @@ loop-i-preserved c =
     let a = c.args in
     let i = c.loop-i.i in
     let step = edge (handle (get_or a.walk.now (i - 1) 0)) (handle (get_or a.walk.now i 0)) in
-    (omega arith, sym (gap_later (links_of a.count a.links.now) a.walk.now i (omega arith) (link-found a.count a.links.now step _ (sym c.find_link.ensures ∙ c.in-At.is)).is_linked) ∙ c.loop-i.invariant.1)
+    (omega arith, sym (gap_later (links_of a.count a.links.now) a.walk.now i (omega arith) (link-found a.count a.links.now step _ (sym c.find_link.ensures ∙ c.in-Some.is)).is_linked) ∙ c.loop-i.invariant.1)
 
 pub returns : goal.returns
 returns c =

@@ -1,6 +1,5 @@
-use Prim.Native.Nat.{◌-◌, ◌≤◌}
+use Prim.Native.Nat.{◌≤◌}
 use mathlib.Core.Path.{◌≡◌}
-use lib.ListN.{length}
 use Rattle.store.specs.Graph.{links_of}
 use Rattle.affix.specs.Prefix.{handles_of}
 use Rattle.spelling.specs.Spelling.{first_gap}
@@ -9,6 +8,3 @@ use Rattle.spelling.proofs.first_gap.Given as goal
 
 abbrev pub invariant-loop-i : goal.invariant-loop-i
 invariant-loop-i l = (1 ≤ l.i) × (gap_from (links_of l.count l.links) l.walk l.i ≡ first_gap (links_of l.count l.links) (handles_of l.walk))
-
-abbrev pub decreases-loop-i : goal.decreases-loop-i
-decreases-loop-i l = length l.walk - l.i

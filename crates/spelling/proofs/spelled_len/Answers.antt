@@ -22,4 +22,4 @@ loop-i-preserved c =
     measured_next c.loop-i.invariant c.node_len-len.result e (omega arith) c.if-room-n.false
 
 pub returns : goal.returns
-returns c = measured_all c.loop-i.invariant c.loop-i-test.false
+returns c = measured_all c.loop-i.invariant (omega arith)

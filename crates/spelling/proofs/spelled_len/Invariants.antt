@@ -1,5 +1,3 @@
-use Prim.Native.Nat.{◌-◌}
-use lib.ListN.{length}
 use Rattle.store.specs.Graph.{nodes_of}
 use Rattle.spelling.specs.Measure.{step_len}
 use Rattle.spelling.proofs.Steps.{Measured}
@@ -7,6 +5,3 @@ use Rattle.spelling.proofs.spelled_len.Given as goal
 
 abbrev pub invariant-loop-i : goal.invariant-loop-i
 invariant-loop-i l = Measured (step_len (nodes_of l.count l.nodes)) l.room l.walk l.n l.i
-
-abbrev pub decreases-loop-i : goal.decreases-loop-i
-decreases-loop-i l = length l.walk - l.i

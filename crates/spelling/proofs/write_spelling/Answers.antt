@@ -1,3 +1,4 @@
+use native.Mathlib.Omega.{arith}
 use mathlib.Core.List.{[]}
 use Rattle.store.specs.Graph.{graph_of}
 use Rattle.store.specs.Views.{spell}
@@ -10,10 +11,10 @@ loop-i-init c =
     writing_none (spell (graph_of a.nodes.now a.text.now [] a.c)) a.walk.now a.out.now c.requires.walk_in_bounds
 
 pub put_letters-at-requires : goal.put_letters-at-requires
-put_letters-at-requires c = record { readable = c.requires.readable; step_in_bounds = writing-room c.loop-i.invariant c.loop-i-test.true }
+put_letters-at-requires c = record { readable = c.requires.readable; step_in_bounds = writing-room c.loop-i.invariant (omega arith) }
 
 pub loop-i-preserved : goal.loop-i-preserved
-loop-i-preserved c = writing-next c.loop-i.invariant c.loop-i-test.true c.put_letters-at.ensures
+loop-i-preserved c = writing-next c.loop-i.invariant (omega arith) c.put_letters-at.ensures
 
 pub returns : goal.returns
-returns c = writing-all c.loop-i.invariant c.loop-i-test.false c.requires.walk_in_bounds
+returns c = writing-all c.loop-i.invariant (omega arith) c.requires.walk_in_bounds

@@ -1,6 +1,4 @@
 use mathlib.Core.List.{[]}
-use Prim.Native.Nat.{◌-◌}
-use lib.ListN.{length}
 use Rattle.store.specs.Graph.{graph_of}
 use Rattle.store.specs.Views.{spell}
 use Rattle.spelling.proofs.Writing.{Writing}
@@ -8,6 +6,3 @@ use Rattle.spelling.proofs.write_spelling.Given as goal
 
 abbrev pub invariant-loop-i : goal.invariant-loop-i
 invariant-loop-i l = Writing (spell (graph_of l.nodes l.text [] l.c)) l.walk l.initial.out l.out l.at l.i
-
-abbrev pub decreases-loop-i : goal.decreases-loop-i
-decreases-loop-i l = length l.walk - l.i

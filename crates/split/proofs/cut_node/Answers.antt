@@ -4,9 +4,10 @@ use mathlib.Core.Bool.{true}
 use mathlib.Core.List.{List, map}
 use native.Mathlib.Omega.{arith}
 use lib.ListN.{length, drop, get_or, set, length-set}
-use Rattle.kit.specs.declared.Found.TheVariants.{At}
+use Rattle.std.specs.Prelude.{Some}
 use Rattle.kit.proofs.Laws.{decode-at, decode-store, by_decode, rest-set}
-use Rattle.store.specs.Graph.{Node, node, node_layout, nodes_of, unpack_node}
+use Rattle.store.specs.Graph.{node, node_layout, nodes_of, unpack_node}
+use Rattle.store.specs.declared.Node.{Node}
 use Rattle.store.specs.Views.{named, find_node}
 use Rattle.formed.specs.WellFormed.{ids_once}
 use Rattle.split.specs.Split.{cut}
@@ -14,7 +15,7 @@ use Rattle.split.proofs.Slot.{Slot, slot, cut-set}
 use Rattle.split.proofs.cut_node.Goals as goal
 
 -- the store to the node's length
-module _ (n id at k : ℕ) (l : List ℕ) (f : find_node id (nodes_of n l) ≡ At at) (once : ids_once (nodes_of n l) ≡ true) (h : at < n) (room : 4 * n ≤ length l) where
+module _ (n id at k : ℕ) (l : List ℕ) (f : find_node id (nodes_of n l) ≡ Some at) (once : ids_once (nodes_of n l) ≡ true) (h : at < n) (room : 4 * n ≤ length l) where
   abbrev with_len : Node → Node
   with_len r = node r.id r.start k r.mark
 

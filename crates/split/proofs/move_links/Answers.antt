@@ -11,7 +11,8 @@ use Rattle.kit.proofs.Steps.{map-stored, map-done}
 use Rattle.handle.specs.declared.Handle.{Handle}
 use Rattle.handle.specs.declared.Edge.{Edge}
 use Rattle.handle.specs.Edge.{written}
-use Rattle.store.specs.Graph.{Link, link, ends, link_layout, links_of, unpack_link}
+use Rattle.store.specs.Graph.{link, ends, link_layout, links_of, unpack_link}
+use Rattle.store.specs.declared.Link.{Link}
 use Rattle.store.proofs.Fields.{link_at, link_is}
 use Rattle.split.specs.Split.{move_ends, move_link}
 use Rattle.split.proofs.move_links.Goals as goal

@@ -1,4 +1,3 @@
-use Prim.Native.Nat.{◌-◌, ◌≤◌}
 use mathlib.Core.Path.{◌≡◌}
 use lib.ListN.{drop}
 use Rattle.store.specs.Views.{named, find_node}
@@ -7,7 +6,4 @@ use Rattle.store.specs.Graph.{nodes_of}
 use Rattle.store.proofs.find_node.Given as goal
 
 abbrev pub invariant-loop-i : goal.invariant-loop-i
-invariant-loop-i l = (l.i ≤ l.count) × (find_from (named l.id) l.i (drop l.i (nodes_of l.count l.nodes)) ≡ find_node l.id (nodes_of l.count l.nodes))
-
-abbrev pub decreases-loop-i : goal.decreases-loop-i
-decreases-loop-i l = l.count - l.i
+invariant-loop-i l = find_from (named l.id) l.i (drop l.i (nodes_of l.count l.nodes)) ≡ find_node l.id (nodes_of l.count l.nodes)

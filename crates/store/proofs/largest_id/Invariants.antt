@@ -1,4 +1,4 @@
-use Prim.Native.Nat.{max, ◌-◌, ◌≤◌}
+use Prim.Native.Nat.{max}
 use mathlib.Core.Path.{◌≡◌}
 use lib.ListN.{drop}
 use Rattle.store.specs.Views.{largest}
@@ -6,7 +6,4 @@ use Rattle.store.specs.Graph.{nodes_of}
 use Rattle.store.proofs.largest_id.Given as goal
 
 abbrev pub invariant-loop-i : goal.invariant-loop-i
-invariant-loop-i l = (l.i ≤ l.count) × (max l.best (largest (drop l.i (nodes_of l.count l.nodes))) ≡ largest (nodes_of l.count l.nodes))
-
-abbrev pub decreases-loop-i : goal.decreases-loop-i
-decreases-loop-i l = l.count - l.i
+invariant-loop-i l = max l.best (largest (drop l.i (nodes_of l.count l.nodes))) ≡ largest (nodes_of l.count l.nodes)

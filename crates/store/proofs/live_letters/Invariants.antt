@@ -1,4 +1,4 @@
-use Prim.Native.Nat.{◌+◌, ◌-◌, ◌≤◌}
+use Prim.Native.Nat.{◌+◌}
 use mathlib.Core.Path.{◌≡◌}
 use lib.ListN.{drop}
 use Rattle.store.specs.Views.{live_letters}
@@ -6,7 +6,4 @@ use Rattle.store.specs.Graph.{nodes_of}
 use Rattle.store.proofs.live_letters.Given as goal
 
 abbrev pub invariant-loop-i : goal.invariant-loop-i
-invariant-loop-i l = (l.i ≤ l.count) × (l.sum + live_letters (drop l.i (nodes_of l.count l.nodes)) ≡ live_letters (nodes_of l.count l.nodes))
-
-abbrev pub decreases-loop-i : goal.decreases-loop-i
-decreases-loop-i l = l.count - l.i
+invariant-loop-i l = l.sum + live_letters (drop l.i (nodes_of l.count l.nodes)) ≡ live_letters (nodes_of l.count l.nodes)

@@ -1,4 +1,3 @@
-use Prim.Native.Nat.{◌-◌, ◌≤◌}
 use mathlib.Core.Path.{◌≡◌}
 use lib.ListN.{drop}
 use Rattle.store.specs.Views.{joins_live}
@@ -7,7 +6,4 @@ use Rattle.kit.specs.Loops.{any}
 use Rattle.store.proofs.live_linked.Given as goal
 
 abbrev pub invariant-loop-i : goal.invariant-loop-i
-invariant-loop-i l = (l.i ≤ l.count) × (any (joins_live (nodes_of l.c.nodes l.nodes) l.e) (drop l.i (links_of l.c.links l.links)) ≡ any (joins_live (nodes_of l.c.nodes l.nodes) l.e) (links_of l.c.links l.links))
-
-abbrev pub decreases-loop-i : goal.decreases-loop-i
-decreases-loop-i l = l.count - l.i
+invariant-loop-i l = any (joins_live (nodes_of l.c.nodes l.nodes) l.e) (drop l.i (links_of l.c.links l.links)) ≡ any (joins_live (nodes_of l.c.nodes l.nodes) l.e) (links_of l.c.links l.links)

@@ -1,4 +1,4 @@
-use mathlib.Core.Path.{sym, ◌∙◌}
+use mathlib.Core.Path.{sym, ap, ◌∙◌}
 use native.Mathlib.Omega.{arith}
 use borrow.Author.Tests.{eq-eqb, ne_eqb}
 use Rattle.store.specs.Views.{named}
@@ -8,17 +8,17 @@ use Rattle.store.specs.Graph.{node_layout}
 use Rattle.kit.proofs.Laws.{left_none}
 use Rattle.store.proofs.stored_from.Goals as goal
 
-pub returns-then-nodes-i : goal.returns-then-nodes-i
-returns-then-nodes-i c =
+pub returns-then-at-id : goal.returns-then-at-id
+returns-then-at-id c =
     let a = c.args in
     let i = c.loop-i.i in
-    sym (any_hit (named a.id) (left-node a.count i a.nodes.now (omega arith)) (eq-eqb _ _ c.if-nodes-i.true)) ∙ c.loop-i.invariant
+    sym (any_hit (named a.id) (left-node a.count i a.nodes.now (omega arith)) (ap (named a.id) (sym c.at.ensures) ∙ eq-eqb _ _ c.if-at-id.true)) ∙ c.loop-i.invariant
 
 pub loop-i-preserved : goal.loop-i-preserved
 loop-i-preserved c =
     let a = c.args in
     let i = c.loop-i.i in
-    sym (any_miss (named a.id) (left-node a.count i a.nodes.now (omega arith)) (ne_eqb _ _ c.if-nodes-i.false)) ∙ c.loop-i.invariant
+    sym (any_miss (named a.id) (left-node a.count i a.nodes.now (omega arith)) (ap (named a.id) (sym c.at.ensures) ∙ ne_eqb _ _ c.if-at-id.false)) ∙ c.loop-i.invariant
 
 pub returns : goal.returns
 returns c =

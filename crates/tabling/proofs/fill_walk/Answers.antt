@@ -1,3 +1,4 @@
+use native.Mathlib.Omega.{arith}
 use Prim.Native.Nat.{◌+◌, ◌*◌}
 use lib.ListN.{drop, get_or}
 use Rattle.kit.specs.Loops.{lines}
@@ -18,12 +19,12 @@ loop-j-init c =
 pub fill_step-place-requires : goal.fill_step-place-requires
 fill_step-place-requires c =
     let a = c.args in
-    filling_fits (walk_step (handle (get_or a.steps.now (2 * (a.first + c.loop-j.j)) 0))) (lines walk_step (drop (c.loop-j.j + 1) (nodes_on (steps_of a.total a.steps.now) (rule 0 0 a.first a.count)))) c.loop-j.invariant (walk_more a.total a.steps.now a.first a.count c.requires.total_in_bounds.1 c.loop-j.j c.loop-j-test.true) c.requires.count_bound
+    rw c.at.ensures (filling_fits (walk_step (handle (get_or a.steps.now (2 * (a.first + c.loop-j.j)) 0))) (lines walk_step (drop (c.loop-j.j + 1) (nodes_on (steps_of a.total a.steps.now) (rule 0 0 a.first a.count)))) c.loop-j.invariant (walk_more a.total a.steps.now a.first a.count c.requires.total_in_bounds.1 c.loop-j.j (omega arith)) c.requires.count_bound)
 
 pub loop-j-preserved : goal.loop-j-preserved
 loop-j-preserved c =
     let a = c.args in
-    filling_next c.loop-j.invariant (walk_more a.total a.steps.now a.first a.count c.requires.total_in_bounds.1 c.loop-j.j c.loop-j-test.true) c.fill_step-place.ensures c.fill_step-place.auto.out
+    filling_next c.loop-j.invariant (walk_more a.total a.steps.now a.first a.count c.requires.total_in_bounds.1 c.loop-j.j (omega arith)) (rw c.at.ensures at c.fill_step-place.ensures) c.fill_step-place.auto.out
 
 pub shape_of-out : goal.shape_of-out
 shape_of-out c = c.loop-j.invariant.same
@@ -31,4 +32,4 @@ shape_of-out c = c.loop-j.invariant.same
 pub returns : goal.returns
 returns c =
     let a = c.args in
-    filling_all c.loop-j.invariant (walk_end a.total a.steps.now a.first a.count c.requires.total_in_bounds.1 c.loop-j.j c.loop-j-test.false)
+    filling_all c.loop-j.invariant (walk_end a.total a.steps.now a.first a.count c.requires.total_in_bounds.1 c.loop-j.j (omega arith))

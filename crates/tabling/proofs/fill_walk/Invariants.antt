@@ -1,4 +1,3 @@
-use Prim.Native.Nat.{◌-◌}
 use lib.ListN.{drop}
 use Rattle.kit.specs.Loops.{lines}
 use Rattle.events.specs.Events.{rule, steps_of}
@@ -9,6 +8,3 @@ use Rattle.tabling.proofs.fill_walk.Given as goal
 
 abbrev pub invariant-loop-j : goal.invariant-loop-j
 invariant-loop-j l = Filling l.initial.out l.at (walk_text (nodes_on (steps_of l.total l.steps) (rule 0 0 l.first l.count))) l.out l.place (lines walk_step (drop l.j (nodes_on (steps_of l.total l.steps) (rule 0 0 l.first l.count))))
-
-abbrev pub decreases-loop-j : goal.decreases-loop-j
-decreases-loop-j l = l.count - l.j

@@ -12,15 +12,15 @@ pub returns-then-elements-i-gt255 : goal.returns-then-elements-i-gt255
 returns-then-elements-i-gt255 c =
     let xs = c.args.elements.now in
     let more = kinds_more xs c.loop-i.i (omega arith) in
-    bytes_bad xs (sym (sym (any_hit above_byte more (lt-ltb 255 _ c.if-elements-i-gt255.true)) ∙ c.loop-i.invariant.1))
+    bytes_bad xs (sym (sym (any_hit above_byte more (lt-ltb 255 _ c.if-elements-i-gt255.true)) ∙ c.loop-i.invariant))
 
 pub loop-i-preserved : goal.loop-i-preserved
 loop-i-preserved c =
     let xs = c.args.elements.now in
     let more = kinds_more xs c.loop-i.i (omega arith) in
-    (omega arith, sym (any_miss above_byte more (le-ltb 255 _ c.if-elements-i-gt255.false)) ∙ c.loop-i.invariant.1)
+    sym (any_miss above_byte more (le-ltb 255 _ c.if-elements-i-gt255.false)) ∙ c.loop-i.invariant
 
 pub returns : goal.returns
 returns c =
     let xs = c.args.elements.now in
-    bytes-fine xs (sym c.loop-i.invariant.1 ∙ any_end above_byte (drop_of_length-le xs {i = c.loop-i.i} (omega arith)))
+    bytes-fine xs (sym c.loop-i.invariant ∙ any_end above_byte (drop_of_length-le xs {i = c.loop-i.i} (omega arith)))

@@ -3,8 +3,8 @@ use mathlib.Core.Path.{◌≡◌}
 use lib.ListN.{length}
 use Rattle.cases.proofs.input.numbers.Given as goal
 
-abbrev pub invariant-loop-i : goal.invariant-loop-i
-invariant-loop-i g l = (l.i ≤ length l.initial.out) × (length l.out ≡ length l.initial.out) × (length l.buf ≡ length l.initial.buf)
+abbrev pub invariant-loop-at : goal.invariant-loop-at
+invariant-loop-at g l = (l.at ≤ length l.initial.out) × (length l.out ≡ length l.initial.out) × (length l.buf ≡ length l.initial.buf)
 
-abbrev pub decreases-loop-i : goal.decreases-loop-i
-decreases-loop-i g l = length l.initial.out - l.i
+abbrev pub decreases-loop-at : goal.decreases-loop-at
+decreases-loop-at g l = length l.initial.out - l.at

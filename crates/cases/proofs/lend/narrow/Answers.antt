@@ -14,14 +14,14 @@ loop-i-preserved c =
     let i = c.loop-i.i in
     let src = map low_byte a.from.now in
     let k : i < length src = rw length-map (omega arith) in
-    (omega arith, simp length-set (omega arith), copied_more src c.loop-i.to i _ (omega arith) k c.loop-i.invariant.2 (sym (get_or-map low_byte a.from.now i 0)))
+    (simp length-set (omega arith), copied_more src c.loop-i.to i _ (omega arith) k c.loop-i.invariant.1 (sym (get_or-map low_byte a.from.now i 0)))
 
 pub slice_bounds-result-end : goal.slice_bounds-result-end
-slice_bounds-result-end c = sym (length-take-le c.smaller-n.result c.loop-i.to (omega arith))
+slice_bounds-result-end c = sym (length-take-le c.min-n.result c.loop-i.to (omega arith))
 
 pub returns : goal.returns
 returns c =
     let a = c.args in
     let src = map low_byte a.from.now in
-    let n : c.smaller-n.result ≡ min (length src) (length a.to.now) = rw length-map c.smaller-n.ensures in
-    copied src c.loop-i.to c.loop-i.i c.smaller-n.result (length a.to.now) (omega arith) n c.loop-i.invariant.2 ∙ take-map low_byte (length a.to.now) a.from.now
+    let n : c.min-n.result ≡ min (length src) (length a.to.now) = rw length-map c.min-n.ensures in
+    copied src c.loop-i.to c.loop-i.i c.min-n.result (length a.to.now) (omega arith) n c.loop-i.invariant.1 ∙ take-map low_byte (length a.to.now) a.from.now

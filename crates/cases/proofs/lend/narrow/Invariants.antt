@@ -1,4 +1,3 @@
-use Prim.Native.Nat.{◌-◌, ◌≤◌}
 use mathlib.Core.Path.{◌≡◌}
 use mathlib.Core.List.{map}
 use lib.ListN.{length, take}
@@ -6,7 +5,4 @@ use Rattle.cases.specs.Parts.{low_byte}
 use Rattle.cases.proofs.lend.narrow.Given as goal
 
 abbrev pub invariant-loop-i : goal.invariant-loop-i
-invariant-loop-i l = (l.i ≤ l.n) × (length l.to ≡ length l.initial.to) × (take l.i l.to ≡ take l.i (map low_byte l.from))
-
-abbrev pub decreases-loop-i : goal.decreases-loop-i
-decreases-loop-i l = l.n - l.i
+invariant-loop-i l = (length l.to ≡ length l.initial.to) × (take l.i l.to ≡ take l.i (map low_byte l.from))

@@ -1,4 +1,3 @@
-use Prim.Native.Nat.{◌-◌}
 use mathlib.Core.Path.{◌≡◌}
 use lib.ListN.{take, drop}
 use Rattle.cases.specs.Parts.{rest_of}
@@ -6,6 +5,3 @@ use Rattle.cases.proofs.parts.place.Given as goal
 
 abbrev pub invariant-loop-i : goal.invariant-loop-i
 invariant-loop-i l = rest_of (drop l.i (take l.k l.shape)) (drop l.at l.numbers) ≡ rest_of (take l.k l.shape) l.numbers
-
-abbrev pub decreases-loop-i : goal.decreases-loop-i
-decreases-loop-i l = l.k - l.i

@@ -10,7 +10,8 @@ use Rattle.kit.proofs.Laws.{length-decode}
 use Rattle.kit.proofs.Meaning.{all_mem, all_of}
 use Rattle.handle.specs.declared.Handle.{Handle}
 use Rattle.handle.specs.Handle.{max_id, id_of}
-use Rattle.store.specs.Graph.{Node, handle, link_layout, nodes_of, links_of}
+use Rattle.store.specs.Graph.{handle, link_layout, nodes_of, links_of}
+use Rattle.store.specs.declared.Node.{Node}
 use Rattle.store.specs.Views.{stored, live_node}
 use Rattle.affix.specs.Prefix.{handles_of, members_live}
 use Rattle.affix.proofs.Runs.{left-handle}

@@ -4,7 +4,9 @@ use mathlib.Core.List.{List, map}
 use native.Mathlib.Omega.{arith}
 use lib.ListN.{length, length-map}
 use Rattle.kit.proofs.Laws.{length-decode}
-use Rattle.store.specs.Graph.{Node, Link, link_layout, nodes_of, links_of}
+use Rattle.store.specs.Graph.{link_layout, nodes_of, links_of}
+use Rattle.store.specs.declared.Node.{Node}
+use Rattle.store.specs.declared.Link.{Link}
 use Rattle.affix.specs.Prefix.{handles_of}
 use Rattle.merging.specs.Plan.{dim, planned}
 use Rattle.linking.specs.Fit.{Plans}

@@ -2,9 +2,7 @@ use lib.Seq.{length-take-le}
 use lib.ListN.{length-drop, drop}
 use Prim.Native.Nat.{◌-◌}
 use Prim.Native.Nat.{◌-◌}
-use mathlib.Core.Path.{◌≡◌}
-use mathlib.Core.List.{◌++◌}
-use lib.ListN.{length, take, drop}
+use lib.ListN.{length, drop}
 use native.Mathlib.Omega.{arith}
 use Rattle.texts.specs.ParseAndTransformPaths.{paths_outcome}
 use Rattle.checking.specs.CheckTransform.{lent}

@@ -1,10 +1,7 @@
-use Prim.Native.Nat.{◌-◌, ◌≤◌}
+use Prim.Native.Nat.{◌-◌}
 use Rattle.drawing.specs.Drawn.{fields_text}
 use Rattle.drawing.proofs.Capping.{Capping}
 use Rattle.drawing.proofs.cap.add_fields.Given as goal
 
 abbrev pub invariant-loop-k : goal.invariant-loop-k
-invariant-loop-k l = (l.k ≤ l.n) × Capping l.stop l.initial.out l.at (fields_text 0 l.n l.line) l.out l.place (fields_text l.k (l.n - l.k) l.line)
-
-abbrev pub decreases-loop-k : goal.decreases-loop-k
-decreases-loop-k l = l.n - l.k
+invariant-loop-k l = Capping l.stop l.initial.out l.at (fields_text 0 l.n l.line) l.out l.place (fields_text l.k (l.n - l.k) l.line)

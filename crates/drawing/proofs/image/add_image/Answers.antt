@@ -19,10 +19,10 @@ pub loop-j-preserved : goal.loop-j-preserved
 loop-j-preserved c =
     let a = c.args in
     let all = towards a.direction (nodes_on (steps_of a.total a.steps.now) (rule 0 0 a.first a.count)) in
-    (search rules, drawing-next c.loop-j.invariant.1 (image-more all c.loop-j.j c.image_step-step.result (omega (arith, size a.total a.steps.now a.first a.count a.direction (omega arith))) c.image_step-step.ensures) c.add_step-pen.ensures (search rules))
+    drawing-next c.loop-j.invariant (image-more all c.loop-j.j c.image_step-step.result (omega (arith, size a.total a.steps.now a.first a.count a.direction (omega arith))) c.image_step-step.ensures) c.add_step-pen.ensures (search rules)
 
 pub returns : goal.returns
 returns c =
     let a = c.args in
     let all = towards a.direction (nodes_on (steps_of a.total a.steps.now) (rule 0 0 a.first a.count)) in
-    drawing-all c.loop-j.invariant.1 (drop_of_length-le all {i = c.loop-j.j} (omega (arith, size a.total a.steps.now a.first a.count a.direction (omega arith))))
+    drawing-all c.loop-j.invariant (drop_of_length-le all {i = c.loop-j.j} (omega (arith, size a.total a.steps.now a.first a.count a.direction (omega arith))))

@@ -1,4 +1,3 @@
-use Prim.Native.Nat.{◌-◌, ◌≤◌}
 use lib.ListN.{drop}
 use Rattle.events.specs.Events.{rule, steps_of}
 use Rattle.rewriting.specs.Rewriting.{nodes_on}
@@ -7,7 +6,4 @@ use Rattle.drawing.proofs.Drawing.{Drawing}
 use Rattle.drawing.proofs.image.add_image.Given as goal
 
 abbrev pub invariant-loop-j : goal.invariant-loop-j
-invariant-loop-j l = (l.j ≤ l.count) × Drawing l.stop l.initial.out l.initial.pen (towards l.direction (nodes_on (steps_of l.total l.steps) (rule 0 0 l.first l.count))) l.out l.pen (drop l.j (towards l.direction (nodes_on (steps_of l.total l.steps) (rule 0 0 l.first l.count))))
-
-abbrev pub decreases-loop-j : goal.decreases-loop-j
-decreases-loop-j l = l.count - l.j
+invariant-loop-j l = Drawing l.stop l.initial.out l.initial.pen (towards l.direction (nodes_on (steps_of l.total l.steps) (rule 0 0 l.first l.count))) l.out l.pen (drop l.j (towards l.direction (nodes_on (steps_of l.total l.steps) (rule 0 0 l.first l.count))))

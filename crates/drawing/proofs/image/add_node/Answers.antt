@@ -4,14 +4,15 @@ use mathlib.Core.Bool.{true, false}
 use mathlib.Core.List.{[], List, ◌∷◌}
 use native.Mathlib.Omega.{arith}
 use borrow.Author.Rules.{rules}
-use lib.ListN.{length, get_or}
+use lib.ListN.{get_or}
 use Rattle.handle.specs.declared.Handle.{Handle}
 use Rattle.handle.specs.Handle.{id_of, dir_of}
 use Rattle.store.specs.declared.Counts.{Counts}
 use Rattle.store.specs.Graph.{nodes_of, graph_of}
 use Rattle.store.specs.Views.{len_of}
 use Rattle.events.specs.declared.Used.{Used}
-use Rattle.events.specs.Events.{Rule, rule, rules_of, steps_of, list_of}
+use Rattle.events.specs.Events.{rule, rules_of, steps_of, list_of}
+use Rattle.events.specs.declared.Rule.{Rule}
 use Rattle.events.specs.WellFormed.{table_formed}
 use Rattle.events.proofs.Says.{table-room}
 use Rattle.rewriting.specs.Rewriting.{ruled, nodes_on, transform_node}
@@ -52,120 +53,24 @@ pub returns-in_default : goal.returns-in_default
 returns-in_default c =
     let nowhere : c.args.h ∷ [] ≡ image c.args.nodes.now c.args.rules.now c.args.steps.now c.args.c c.args.u c.args.h =
     let a = c.args in
-    alone a.nodes.now a.rules.now a.steps.now a.c a.u a.h (rule_nowhere (id_of a.h) (len a.nodes.now a.rules.now a.steps.now a.c a.u a.h) (rules_of a.u.rules a.rules.now) (looked_up (nodes_of a.c.nodes a.nodes.now) (rules_of a.u.rules a.rules.now) a.h c.id-id.result c.node_len-len.result c.id-id.ensures c.node_len-len.ensures (sym c.in_default.is ∙ c.find_rule.ensures)))
+    alone a.nodes.now a.rules.now a.steps.now a.c a.u a.h (rule_nowhere (id_of a.h) (len a.nodes.now a.rules.now a.steps.now a.c a.u a.h) (rules_of a.u.rules a.rules.now) (looked_up (nodes_of a.c.nodes a.nodes.now) (rules_of a.u.rules a.rules.now) a.h c.id-id.result c.node_len-len.result c.id-id.ensures c.node_len-len.ensures (sym c.in_default.is ∙ c.find_rule.ensures.value)))
     in
     drawn_is (nowhere) c.add_step.ensures
 
-pub overflow_mul-first : goal.overflow_mul-first
-overflow_mul-first c =
-    let found : RuleFound c.args.u.rules c.args.rules.now (id_of c.args.h) (len c.args.nodes.now c.args.rules.now c.args.steps.now c.args.c c.args.u c.args.h) c.in-At.i =
-    let a = c.args in
-    rule_found a.u.rules a.rules.now (id_of a.h) (len a.nodes.now a.rules.now a.steps.now a.c a.u a.h) c.in-At.i (looked_up (nodes_of a.c.nodes a.nodes.now) (rules_of a.u.rules a.rules.now) a.h c.id-id.result c.node_len-len.result c.id-id.ensures c.node_len-len.ensures (sym c.in-At.is ∙ c.find_rule.ensures))
-    in
-    let slot : 4 * c.in-At.i + 4 ≤ length c.args.rules.now =
-    let a = c.args in
-    omega (arith, (found).within, (table-room a.rules.now a.steps.now a.u c.requires.nodes_in_bounds.1).rule_room)
-    in
-    omega (arith, slot)
-
-pub overflow_add-first : goal.overflow_add-first
-overflow_add-first c =
-    let found : RuleFound c.args.u.rules c.args.rules.now (id_of c.args.h) (len c.args.nodes.now c.args.rules.now c.args.steps.now c.args.c c.args.u c.args.h) c.in-At.i =
-    let a = c.args in
-    rule_found a.u.rules a.rules.now (id_of a.h) (len a.nodes.now a.rules.now a.steps.now a.c a.u a.h) c.in-At.i (looked_up (nodes_of a.c.nodes a.nodes.now) (rules_of a.u.rules a.rules.now) a.h c.id-id.result c.node_len-len.result c.id-id.ensures c.node_len-len.ensures (sym c.in-At.is ∙ c.find_rule.ensures))
-    in
-    let slot : 4 * c.in-At.i + 4 ≤ length c.args.rules.now =
-    let a = c.args in
-    omega (arith, (found).within, (table-room a.rules.now a.steps.now a.u c.requires.nodes_in_bounds.1).rule_room)
-    in
-    omega (arith, slot)
-
-pub offset_bounds-rules-i : goal.offset_bounds-rules-i
-offset_bounds-rules-i c =
-    let found : RuleFound c.args.u.rules c.args.rules.now (id_of c.args.h) (len c.args.nodes.now c.args.rules.now c.args.steps.now c.args.c c.args.u c.args.h) c.in-At.i =
-    let a = c.args in
-    rule_found a.u.rules a.rules.now (id_of a.h) (len a.nodes.now a.rules.now a.steps.now a.c a.u a.h) c.in-At.i (looked_up (nodes_of a.c.nodes a.nodes.now) (rules_of a.u.rules a.rules.now) a.h c.id-id.result c.node_len-len.result c.id-id.ensures c.node_len-len.ensures (sym c.in-At.is ∙ c.find_rule.ensures))
-    in
-    let slot : 4 * c.in-At.i + 4 ≤ length c.args.rules.now =
-    let a = c.args in
-    omega (arith, (found).within, (table-room a.rules.now a.steps.now a.u c.requires.nodes_in_bounds.1).rule_room)
-    in
-    omega (arith, slot)
-
-pub bounds-rules-i : goal.bounds-rules-i
-bounds-rules-i c =
-    let found : RuleFound c.args.u.rules c.args.rules.now (id_of c.args.h) (len c.args.nodes.now c.args.rules.now c.args.steps.now c.args.c c.args.u c.args.h) c.in-At.i =
-    let a = c.args in
-    rule_found a.u.rules a.rules.now (id_of a.h) (len a.nodes.now a.rules.now a.steps.now a.c a.u a.h) c.in-At.i (looked_up (nodes_of a.c.nodes a.nodes.now) (rules_of a.u.rules a.rules.now) a.h c.id-id.result c.node_len-len.result c.id-id.ensures c.node_len-len.ensures (sym c.in-At.is ∙ c.find_rule.ensures))
-    in
-    let slot : 4 * c.in-At.i + 4 ≤ length c.args.rules.now =
-    let a = c.args in
-    omega (arith, (found).within, (table-room a.rules.now a.steps.now a.u c.requires.nodes_in_bounds.1).rule_room)
-    in
-    omega (arith, slot)
-
-pub overflow_mul-count : goal.overflow_mul-count
-overflow_mul-count c =
-    let found : RuleFound c.args.u.rules c.args.rules.now (id_of c.args.h) (len c.args.nodes.now c.args.rules.now c.args.steps.now c.args.c c.args.u c.args.h) c.in-At.i =
-    let a = c.args in
-    rule_found a.u.rules a.rules.now (id_of a.h) (len a.nodes.now a.rules.now a.steps.now a.c a.u a.h) c.in-At.i (looked_up (nodes_of a.c.nodes a.nodes.now) (rules_of a.u.rules a.rules.now) a.h c.id-id.result c.node_len-len.result c.id-id.ensures c.node_len-len.ensures (sym c.in-At.is ∙ c.find_rule.ensures))
-    in
-    let slot : 4 * c.in-At.i + 4 ≤ length c.args.rules.now =
-    let a = c.args in
-    omega (arith, (found).within, (table-room a.rules.now a.steps.now a.u c.requires.nodes_in_bounds.1).rule_room)
-    in
-    omega (arith, slot)
-
-pub overflow_add-count : goal.overflow_add-count
-overflow_add-count c =
-    let found : RuleFound c.args.u.rules c.args.rules.now (id_of c.args.h) (len c.args.nodes.now c.args.rules.now c.args.steps.now c.args.c c.args.u c.args.h) c.in-At.i =
-    let a = c.args in
-    rule_found a.u.rules a.rules.now (id_of a.h) (len a.nodes.now a.rules.now a.steps.now a.c a.u a.h) c.in-At.i (looked_up (nodes_of a.c.nodes a.nodes.now) (rules_of a.u.rules a.rules.now) a.h c.id-id.result c.node_len-len.result c.id-id.ensures c.node_len-len.ensures (sym c.in-At.is ∙ c.find_rule.ensures))
-    in
-    let slot : 4 * c.in-At.i + 4 ≤ length c.args.rules.now =
-    let a = c.args in
-    omega (arith, (found).within, (table-room a.rules.now a.steps.now a.u c.requires.nodes_in_bounds.1).rule_room)
-    in
-    omega (arith, slot)
-
-pub offset_bounds-rules-i-2 : goal.offset_bounds-rules-i-2
-offset_bounds-rules-i-2 c =
-    let found : RuleFound c.args.u.rules c.args.rules.now (id_of c.args.h) (len c.args.nodes.now c.args.rules.now c.args.steps.now c.args.c c.args.u c.args.h) c.in-At.i =
-    let a = c.args in
-    rule_found a.u.rules a.rules.now (id_of a.h) (len a.nodes.now a.rules.now a.steps.now a.c a.u a.h) c.in-At.i (looked_up (nodes_of a.c.nodes a.nodes.now) (rules_of a.u.rules a.rules.now) a.h c.id-id.result c.node_len-len.result c.id-id.ensures c.node_len-len.ensures (sym c.in-At.is ∙ c.find_rule.ensures))
-    in
-    let slot : 4 * c.in-At.i + 4 ≤ length c.args.rules.now =
-    let a = c.args in
-    omega (arith, (found).within, (table-room a.rules.now a.steps.now a.u c.requires.nodes_in_bounds.1).rule_room)
-    in
-    omega (arith, slot)
-
-pub bounds-rules-i-2 : goal.bounds-rules-i-2
-bounds-rules-i-2 c =
-    let found : RuleFound c.args.u.rules c.args.rules.now (id_of c.args.h) (len c.args.nodes.now c.args.rules.now c.args.steps.now c.args.c c.args.u c.args.h) c.in-At.i =
-    let a = c.args in
-    rule_found a.u.rules a.rules.now (id_of a.h) (len a.nodes.now a.rules.now a.steps.now a.c a.u a.h) c.in-At.i (looked_up (nodes_of a.c.nodes a.nodes.now) (rules_of a.u.rules a.rules.now) a.h c.id-id.result c.node_len-len.result c.id-id.ensures c.node_len-len.ensures (sym c.in-At.is ∙ c.find_rule.ensures))
-    in
-    let slot : 4 * c.in-At.i + 4 ≤ length c.args.rules.now =
-    let a = c.args in
-    omega (arith, (found).within, (table-room a.rules.now a.steps.now a.u c.requires.nodes_in_bounds.1).rule_room)
-    in
-    omega (arith, slot)
-
 pub add_image-requires : goal.add_image-requires
 add_image-requires c =
-    let found : RuleFound c.args.u.rules c.args.rules.now (id_of c.args.h) (len c.args.nodes.now c.args.rules.now c.args.steps.now c.args.c c.args.u c.args.h) c.in-At.i =
+    let found : RuleFound c.args.u.rules c.args.rules.now (id_of c.args.h) (len c.args.nodes.now c.args.rules.now c.args.steps.now c.args.c c.args.u c.args.h) c.in-Some.i =
     let a = c.args in
-    rule_found a.u.rules a.rules.now (id_of a.h) (len a.nodes.now a.rules.now a.steps.now a.c a.u a.h) c.in-At.i (looked_up (nodes_of a.c.nodes a.nodes.now) (rules_of a.u.rules a.rules.now) a.h c.id-id.result c.node_len-len.result c.id-id.ensures c.node_len-len.ensures (sym c.in-At.is ∙ c.find_rule.ensures))
+    rule_found a.u.rules a.rules.now (id_of a.h) (len a.nodes.now a.rules.now a.steps.now a.c a.u a.h) c.in-Some.i (looked_up (nodes_of a.c.nodes a.nodes.now) (rules_of a.u.rules a.rules.now) a.h c.id-id.result c.node_len-len.result c.id-id.ensures c.node_len-len.ensures (sym c.in-Some.is ∙ c.find_rule.ensures.value))
     in
     let a = c.args in
-    record { total_in_bounds = ((table-room a.rules.now a.steps.now a.u c.requires.nodes_in_bounds.1).step_room, inside a.nodes.now a.rules.now a.steps.now a.c a.u a.h c.in-At.i (found) c.requires.nodes_in_bounds.1); fact = search rules }
+    rw c.at-r.ensures (record { total_in_bounds = ((table-room a.rules.now a.steps.now a.u c.requires.nodes_in_bounds.1).step_room, inside a.nodes.now a.rules.now a.steps.now a.c a.u a.h c.in-Some.i (found) c.requires.nodes_in_bounds.1); fact = search rules })
 
 pub returns : goal.returns
 returns c =
-    let found : RuleFound c.args.u.rules c.args.rules.now (id_of c.args.h) (len c.args.nodes.now c.args.rules.now c.args.steps.now c.args.c c.args.u c.args.h) c.in-At.i =
+    let found : RuleFound c.args.u.rules c.args.rules.now (id_of c.args.h) (len c.args.nodes.now c.args.rules.now c.args.steps.now c.args.c c.args.u c.args.h) c.in-Some.i =
     let a = c.args in
-    rule_found a.u.rules a.rules.now (id_of a.h) (len a.nodes.now a.rules.now a.steps.now a.c a.u a.h) c.in-At.i (looked_up (nodes_of a.c.nodes a.nodes.now) (rules_of a.u.rules a.rules.now) a.h c.id-id.result c.node_len-len.result c.id-id.ensures c.node_len-len.ensures (sym c.in-At.is ∙ c.find_rule.ensures))
+    rule_found a.u.rules a.rules.now (id_of a.h) (len a.nodes.now a.rules.now a.steps.now a.c a.u a.h) c.in-Some.i (looked_up (nodes_of a.c.nodes a.nodes.now) (rules_of a.u.rules a.rules.now) a.h c.id-id.result c.node_len-len.result c.id-id.ensures c.node_len-len.ensures (sym c.in-Some.is ∙ c.find_rule.ensures.value))
     in
     let a = c.args in
-    drawn_is (walk a.nodes.now a.rules.now a.steps.now a.c a.u a.h c.in-At.i (found) c.direction.result c.direction.ensures) c.add_image.ensures
+    drawn_is (walk a.nodes.now a.rules.now a.steps.now a.c a.u a.h c.in-Some.i (found) c.direction.result c.direction.ensures) (rw c.at-r.ensures at c.add_image.ensures)

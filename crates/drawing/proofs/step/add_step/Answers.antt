@@ -12,7 +12,7 @@ pub fill_step-end-requires : goal.fill_step-end-requires
 fill_step-end-requires c =
     let a = c.args in
     let k : a.h.packed < 2 ^ 64 = search rules in
-    omega (arith, step_short a.pen.mark a.h k)
+    omega (arith, step_short a.h k a.pen.mark)
 
 pub returns : goal.returns
 returns c =

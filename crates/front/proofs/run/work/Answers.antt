@@ -11,8 +11,8 @@ slice_bounds-work-end-10 g c = sym (length-replicate {A = ℕ} 524288 0)
 pub slice_bounds-work-end-11 : goal.slice_bounds-work-end-11
 slice_bounds-work-end-11 g c = sym (length-replicate {A = ℕ} 262144 0)
 
-pub returns-then-d-ne0 : goal.returns-then-d-ne0
-returns-then-d-ne0 g c = c.refuse.ensures
+pub returns-in-Some : goal.returns-in-Some
+returns-in-Some g c = c.refuse.ensures
 
 pub slice_bounds-page-end : goal.slice_bounds-page-end
 slice_bounds-page-end g c = c.work-d.ensures.page_in_bounds.0

@@ -18,7 +18,7 @@ turn plan l₀ n l i p h room =
     (ends-stored i l (ends (link_at plan i)) (link_at l₀ i).mark mark (omega (arith, p.size)))
 
 pub loop-i-init : goal.loop-i-init
-loop-i-init c = (omega arith, record { size = refl; sofar = refl; rest = refl })
+loop-i-init c = record { size = refl; sofar = refl; rest = refl }
 
 pub bounds-links-i-in-loop-i : goal.bounds-links-i-in-loop-i
 bounds-links-i-in-loop-i c = simp length-set (omega arith)
@@ -26,12 +26,12 @@ bounds-links-i-in-loop-i c = simp length-set (omega arith)
 pub loop-i-preserved : goal.loop-i-preserved
 loop-i-preserved c =
     let a = c.args in
-    (omega arith, turn a.plan.now a.links.now a.count c.loop-i.links c.loop-i.i c.loop-i.invariant.1 (omega arith) c.requires.1)
+    turn a.plan.now a.links.now a.count c.loop-i.links c.loop-i.i c.loop-i.invariant (omega arith) c.requires.1
 
 pub shape_of-links : goal.shape_of-links
-shape_of-links c = c.loop-i.invariant.1.size
+shape_of-links c = c.loop-i.invariant.size
 
 pub returns : goal.returns
 returns c =
     let a = c.args in
-    all-put c.loop-i.invariant.1 (omega arith) (remark_none _ (left_none link_layout a.count c.loop-i.i a.plan.now (omega arith))) c.requires.1
+    all-put c.loop-i.invariant (omega arith) (remark_none _ (left_none link_layout a.count c.loop-i.i a.plan.now (omega arith))) c.requires.1

@@ -1,7 +1,8 @@
-use Prim.Native.Nat.{ℕ, ◌-◌, ◌≤◌}
+use Prim.Native.Nat.{ℕ}
 use mathlib.Core.List.{List}
 use lib.ListN.{drop}
-use Rattle.store.specs.Graph.{Link, links_of}
+use Rattle.store.specs.Graph.{links_of}
+use Rattle.store.specs.declared.Link.{Link}
 use Rattle.merging.specs.Plan.{remark}
 use Rattle.merging.proofs.Putting.{Putting}
 use Rattle.merging.proofs.copies.put_ends.Given as goal
@@ -10,7 +11,4 @@ abbrev pub left : List ℕ → List ℕ → ℕ → ℕ → List Link
 left plan l₀ n i = remark (drop i (links_of n l₀)) (drop i (links_of n plan))
 
 abbrev pub invariant-loop-i : goal.invariant-loop-i
-invariant-loop-i l = (l.i ≤ l.count) × Putting l.initial.links l.links l.i (left l.plan l.initial.links l.count l.i) (left l.plan l.initial.links l.count 0)
-
-abbrev pub decreases-loop-i : goal.decreases-loop-i
-decreases-loop-i l = l.count - l.i
+invariant-loop-i l = Putting l.initial.links l.links l.i (left l.plan l.initial.links l.count l.i) (left l.plan l.initial.links l.count 0)

@@ -13,7 +13,7 @@ loop-i-init c = (omega arith, omega arith, record { size = refl; sofar = refl; r
 pub loop-i-preserved : goal.loop-i-preserved
 loop-i-preserved c =
     let a = c.args in
-    (omega arith, omega arith, put_one c.loop-i.invariant.2 (remark-new (left-link a.end c.loop-i.i a.plan.now (omega arith))) (omega arith) c.push_link.ensures)
+    (omega arith, omega arith, put_one c.loop-i.invariant.2 (remark-new (left-link a.end c.loop-i.i a.plan.now (omega arith))) (omega arith) (rw c.at-l.ensures at c.push_link.ensures))
 
 pub shape_of-links : goal.shape_of-links
 shape_of-links c = c.loop-i.invariant.2.size

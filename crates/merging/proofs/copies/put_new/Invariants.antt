@@ -1,7 +1,8 @@
-use Prim.Native.Nat.{ℕ, ◌-◌, ◌≤◌}
+use Prim.Native.Nat.{ℕ, ◌≤◌}
 use mathlib.Core.List.{[], List, ◌++◌}
 use lib.ListN.{drop}
-use Rattle.store.specs.Graph.{Link, links_of}
+use Rattle.store.specs.Graph.{links_of}
+use Rattle.store.specs.declared.Link.{Link}
 use Rattle.merging.specs.Plan.{remark}
 use Rattle.merging.proofs.Putting.{Putting}
 use Rattle.merging.proofs.copies.put_new.Given as goal
@@ -11,6 +12,3 @@ left plan n i = remark [] (drop i (links_of n plan))
 
 abbrev pub invariant-loop-i : goal.invariant-loop-i
 invariant-loop-i l = (l.start ≤ l.i) × (l.i ≤ l.end) × Putting l.initial.links l.links l.i (left l.plan l.end l.i) (links_of l.start l.initial.links ++ left l.plan l.end l.start)
-
-abbrev pub decreases-loop-i : goal.decreases-loop-i
-decreases-loop-i l = l.end - l.i

@@ -1,7 +1,8 @@
 use Prim.Native.Nat.{ℕ, ◌+◌}
 use mathlib.Core.Path.{ap, ◌∙◌}
 use mathlib.Core.List.{List}
-use Rattle.store.specs.Graph.{Node, nodes_of}
+use Rattle.store.specs.Graph.{nodes_of}
+use Rattle.store.specs.declared.Node.{Node}
 use Rattle.formed.specs.WellFormed.{ids_once}
 use Rattle.merging.specs.Plan.{alone_nodes}
 use Rattle.merging.proofs.NodeTurns.{alone-once, holds, mark_alone}

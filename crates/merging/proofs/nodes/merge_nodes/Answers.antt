@@ -9,7 +9,8 @@ use Rattle.kit.proofs.Laws.{length-decode, encode-decode, alike_further}
 use Rattle.kit.proofs.Meaning.{all_mem}
 use Rattle.handle.specs.declared.Handle.{Handle}
 use Rattle.handle.specs.Handle.{id_of}
-use Rattle.store.specs.Graph.{Node, handle, node_layout, nodes_of}
+use Rattle.store.specs.Graph.{handle, node_layout, nodes_of}
+use Rattle.store.specs.declared.Node.{Node}
 use Rattle.store.specs.Views.{stored}
 use Rattle.merging.specs.Plan.{alone_nodes, later_nodes, later_nodes_all, merged_nodes}
 use Rattle.merging.proofs.NodeTurns.{Ready, ready_alone, ready_later, alone_space, later_more, holds, beyond, left_member, no_member}

@@ -4,7 +4,8 @@ use mathlib.Core.Bool.{Bool, true, cond}
 use mathlib.Core.List.{List}
 use lib.ListN.{length, drop}
 use Rattle.kit.specs.Loops.{all, keep}
-use Rattle.store.specs.Graph.{Node, nodes_of}
+use Rattle.store.specs.Graph.{nodes_of}
+use Rattle.store.specs.declared.Node.{Node}
 use Rattle.spelling.specs.Spelling.{all_stored}
 use Rattle.text.specs.Pieces.{lines_of}
 use Rattle.text.specs.Fields.{handles_said}

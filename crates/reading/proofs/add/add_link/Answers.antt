@@ -1,22 +1,24 @@
-use mathlib.Core.Path.{refl, sym, ◌∙◌}
+use mathlib.Core.Path.{◌≡◌, sym, ap, ◌∙◌}
+use Rattle.std.specs.Option.{is_some}
 use Rattle.handle.specs.Edge.{edge}
 use Rattle.store.specs.Graph.{links_of}
-use Rattle.store.proofs.Lookups.{link-found, link_nowhere}
+use Rattle.store.specs.Views.{linked}
+use Rattle.reading.proofs.Found.{link_there}
 use Rattle.reading.proofs.More.{link_again}
 use Rattle.reading.proofs.add.add_link.Goals as goal
 
-pub append_link-requires : goal.append_link-requires
-append_link-requires c =
+pub returns-then-is_some-clause-by_index : goal.returns-then-is_some-clause-by_index
+returns-then-is_some-clause-by_index c =
     let a = c.args in
-    record { links_in_bounds = c.requires; links_value = link_nowhere (edge a.u a.v) (links_of a.c.links a.links.now) (sym c.find_link.ensures ∙ c.in_default.is) }
+    let e = edge a.u a.v in
+    let rs = links_of a.c.links a.links.now in
+    let there : c.is_some.result ≡ linked e rs = c.is_some.ensures ∙ ap is_some c.find_link.ensures ∙ link_there e rs in
+    λ nodes letters l g h. link_again h e (sym there ∙ c.if-is_some.true)
 
-pub returns-in_default : goal.returns-in_default
-returns-in_default c = record { nodes_value = c.append_link.ensures.nodes_value; by_index = c.append_link.ensures.by_index }
-
-pub returns : goal.returns
-returns c =
-    let a = c.args in record {
-      nodes_value = (refl, c.requires);
-      by_index = λ nodes letters l g h.
-          link_again h (edge a.u a.v) (link-found a.c.links a.links.now (edge a.u a.v) c.in-At.field-0 (sym c.find_link.ensures ∙ c.in-At.is)).is_linked;
-    }
+pub append_link-requires-clause-links_value : goal.append_link-requires-clause-links_value
+append_link-requires-clause-links_value c =
+    let a = c.args in
+    let e = edge a.u a.v in
+    let rs = links_of a.c.links a.links.now in
+    let there : c.is_some.result ≡ linked e rs = c.is_some.ensures ∙ ap is_some c.find_link.ensures ∙ link_there e rs in
+    sym there ∙ c.if-is_some.false

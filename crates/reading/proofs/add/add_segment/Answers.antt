@@ -1,21 +1,21 @@
-use mathlib.Core.Path.{sym, ◌∙◌}
+use mathlib.Core.Path.{◌≡◌, sym, ap, ◌∙◌}
+use Rattle.std.specs.Option.{is_some}
 use Rattle.store.specs.Graph.{nodes_of}
-use Rattle.store.proofs.Lookups.{node-found, node_nowhere}
+use Rattle.store.specs.Views.{stored}
+use Rattle.reading.proofs.Found.{node_there}
 use Rattle.reading.proofs.More.{segment_again}
 use Rattle.reading.proofs.add.add_segment.Goals as goal
 
-pub append_segment-requires : goal.append_segment-requires
-append_segment-requires c =
+pub returns-then-is_some-clause-on_segments : goal.returns-then-is_some-clause-on_segments
+returns-then-is_some-clause-on_segments c =
     let a = c.args in
-    record { nodes_in_bounds = c.requires; nodes_value = node_nowhere a.id (nodes_of a.c.nodes a.nodes.now) (sym c.find_node.ensures ∙ c.in_default.is) }
+    let rs = nodes_of a.c.nodes a.nodes.now in
+    let there : c.is_some.result ≡ stored a.id rs = c.is_some.ensures ∙ ap is_some c.find_node.ensures.value ∙ node_there a.id rs in
+    λ links l g h. segment_again h a.id a.s.now (sym there ∙ c.if-is_some.true)
 
-pub returns-in_default : goal.returns-in_default
-returns-in_default c = record { nodes_in_bounds = c.append_segment.ensures.nodes_in_bounds_2; on_segments = c.append_segment.ensures.on_segments }
-
-pub returns : goal.returns
-returns c =
-    let a = c.args in record {
-      nodes_in_bounds = c.requires;
-      on_segments = λ links l g h.
-          segment_again h a.id a.s.now (node-found a.c.nodes a.nodes.now a.id c.in-At.field-0 (sym c.find_node.ensures ∙ c.in-At.is)).is_stored;
-    }
+pub append_segment-requires-clause-nodes_value : goal.append_segment-requires-clause-nodes_value
+append_segment-requires-clause-nodes_value c =
+    let a = c.args in
+    let rs = nodes_of a.c.nodes a.nodes.now in
+    let there : c.is_some.result ≡ stored a.id rs = c.is_some.ensures ∙ ap is_some c.find_node.ensures.value ∙ node_there a.id rs in
+    sym there ∙ c.if-is_some.false

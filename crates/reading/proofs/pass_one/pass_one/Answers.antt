@@ -1,48 +1,38 @@
+use Prim.Native.Nat.{◌*◌, ◌≤◌}
 use mathlib.Core.Path.{refl}
 use native.Mathlib.Omega.{arith}
+use lib.ListN.{length}
+use Rattle.std.proofs.lemmas.Result.{IfOk-at_ok, err_from_is_err_and}
 use Rattle.text.proofs.Cuts.{piece_last, piece_more}
 use Rattle.reading.proofs.Turns.{line_refused, line-last, line-passed}
 use Rattle.reading.proofs.pass_one.pass_one.Goals as goal
 
-pub loop-r-init : goal.loop-r-init
-loop-r-init c =
-    record {
-      bound = omega arith;
-      nodes_size = refl;
-      letters_size = refl;
-      node_room = c.requires.0;
-      letter_room = c.requires.1;
-      turn = λ links l g h. record { graph = g; held = h; left = refl };
-    }
-
-pub next_line-end-requires : goal.next_line-end-requires
-next_line-end-requires c = c.loop-r.invariant.bound
-
-pub pass_one_line-r-requires : goal.pass_one_line-r-requires
-pass_one_line-r-requires c = (c.loop-r.invariant.node_room, c.loop-r.invariant.letter_room)
-
-pub returns-then-r-ne0 : goal.returns-then-r-ne0
-returns-then-r-ne0 c =
+pub returns-in_err-used : goal.returns-in_err-used
+returns-in_err-used c =
+    let p = err_from_is_err_and c.from_residual.result c.from_residual.ensures.1 in
     λ links l g h.
-    let t = c.loop-r.invariant.turn links l g h in
-    line_refused t c.next_line-end.ensures.cut (c.pass_one_line-r.ensures.on_segments links l t.graph t.held) c.if-r-ne0.true
+    let t = c.loop-used.invariant.turn links l g h in
+    rw (p.1, p.2, ← c.in_err-used.was)
+    (line_refused t c.next_line-end.ensures.cut (c.pass_one_line.ensures.on_segments links l t.graph t.held) c.in_err-used.was)
 
 pub returns-then-end-text : goal.returns-then-end-text
 returns-then-end-text c =
     λ links l g h.
-    let t = c.loop-r.invariant.turn links l g h in
-    line-last t (piece_last c.next_line-end.ensures c.if-end-text.true) (c.pass_one_line-r.ensures.on_segments links l t.graph t.held) refl
+    let t = c.loop-used.invariant.turn links l g h in
+    rw (← c.in_ok-used.was)
+    (line-last t (piece_last c.next_line-end.ensures c.if-end-text.true) (c.pass_one_line.ensures.on_segments links l t.graph t.held) refl)
 
-pub loop-r-preserved : goal.loop-r-preserved
-loop-r-preserved c =
+pub loop-used-preserved : goal.loop-used-preserved
+loop-used-preserved c =
+    let room = IfOk-at_ok (λ n. (4 * n.nodes ≤ length c.pass_one_line.new.nodes) × (n.letters ≤ length c.pass_one_line.new.letters)) c.in_ok-used.was c.pass_one_line.ensures.ok in
     record {
       bound = omega (arith, c.next_line-end.ensures.high, c.if-end-text.false);
-      nodes_size = omega (arith, c.loop-r.invariant.nodes_size);
-      letters_size = omega (arith, c.loop-r.invariant.letters_size);
-      node_room = c.pass_one_line-r.ensures.nodes_in_bounds.0;
-      letter_room = c.pass_one_line-r.ensures.nodes_in_bounds.1;
+      nodes_size = omega (arith, c.loop-used.invariant.nodes_size);
+      letters_size = omega (arith, c.loop-used.invariant.letters_size);
+      node_room = room.0;
+      letter_room = room.1;
       turn =
           λ links l g h.
-          let t = c.loop-r.invariant.turn links l g h in
-          line-passed t (piece_more c.next_line-end.ensures c.if-end-text.false) (c.pass_one_line-r.ensures.on_segments links l t.graph t.held) c.if-r-ne0.false;
+          let t = c.loop-used.invariant.turn links l g h in
+          line-passed t (piece_more c.next_line-end.ensures c.if-end-text.false) (c.pass_one_line.ensures.on_segments links l t.graph t.held) c.in_ok-used.was;
     }

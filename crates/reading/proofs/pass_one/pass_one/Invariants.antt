@@ -19,8 +19,8 @@ pub record Inv (text nodes₀ letters₀ : List ℕ) (used₀ : Counts) (nodes l
   pub letter_room : used.letters ≤ length letters
   pub turn : (links : List ℕ) (l : Store) (g : Graph) → Held l g (store nodes₀ letters₀ links) used₀ → Turn l (pass_one_line l) (lines_of (drop at text)) (pass (pass_one_line l) (going g) (lines_of text)) (store nodes letters links) used
 
-abbrev pub invariant-loop-r : goal.invariant-loop-r
-invariant-loop-r l = Inv l.text l.initial.nodes l.initial.letters l.initial.used l.nodes l.letters l.used l.at
+abbrev pub invariant-loop-used : goal.invariant-loop-used
+invariant-loop-used l = Inv l.text l.initial.nodes l.initial.letters l.initial.used l.nodes l.letters l.used l.at
 
-abbrev pub decreases-loop-r : goal.decreases-loop-r
-decreases-loop-r l = length l.text - l.at
+abbrev pub decreases-loop-used : goal.decreases-loop-used
+decreases-loop-used l = length l.text - l.at

@@ -1,46 +1,37 @@
-use mathlib.Core.Path.{refl, ◌∙◌}
+use Prim.Native.Nat.{◌*◌, ◌≤◌}
+use mathlib.Core.Path.{◌≡◌, refl, ◌∙◌}
 use native.Mathlib.Omega.{arith}
+use lib.ListN.{length}
+use Rattle.std.proofs.lemmas.Result.{IfOk-at_ok, err_from_is_err_and}
 use Rattle.text.proofs.Cuts.{piece_last, piece_more}
 use Rattle.reading.proofs.Turns.{line_refused, line-last, line-passed}
 use Rattle.reading.proofs.pass_two.pass_two.Goals as goal
 
-pub loop-r-init : goal.loop-r-init
-loop-r-init c =
-    record {
-      bound = omega arith;
-      links_size = refl;
-      same_nodes = refl;
-      link_room = c.requires.1;
-      turn = λ letters l g h. record { graph = g; held = h; left = refl };
-    }
-
-pub next_line-end-requires : goal.next_line-end-requires
-next_line-end-requires c = c.loop-r.invariant.bound
-
-pub pass_two_line-r-requires : goal.pass_two_line-r-requires
-pass_two_line-r-requires c = (omega (arith, c.loop-r.invariant.same_nodes, c.requires.0), c.loop-r.invariant.link_room)
-
-pub returns-then-r-ne0 : goal.returns-then-r-ne0
-returns-then-r-ne0 c =
+pub returns-in_err-used : goal.returns-in_err-used
+returns-in_err-used c =
+    let p = err_from_is_err_and c.from_residual.result c.from_residual.ensures.1 in
     λ letters l g h.
-    let t = c.loop-r.invariant.turn letters l g h in
-    line_refused t c.next_line-end.ensures.cut (c.pass_two_line-r.ensures.on_links letters l t.graph t.held) c.if-r-ne0.true
+    let t = c.loop-used.invariant.turn letters l g h in
+    rw (p.1, p.2, ← c.in_err-used.was)
+    (line_refused t c.next_line-end.ensures.cut (c.pass_two_line.ensures.on_links letters l t.graph t.held) c.in_err-used.was)
 
 pub returns-then-end-text : goal.returns-then-end-text
 returns-then-end-text c =
     λ letters l g h.
-    let t = c.loop-r.invariant.turn letters l g h in
-    line-last t (piece_last c.next_line-end.ensures c.if-end-text.true) (c.pass_two_line-r.ensures.on_links letters l t.graph t.held) refl
+    let t = c.loop-used.invariant.turn letters l g h in
+    rw (← c.in_ok-used.was)
+    (line-last t (piece_last c.next_line-end.ensures c.if-end-text.true) (c.pass_two_line.ensures.on_links letters l t.graph t.held) refl)
 
-pub loop-r-preserved : goal.loop-r-preserved
-loop-r-preserved c =
+pub loop-used-preserved : goal.loop-used-preserved
+loop-used-preserved c =
+    let room = IfOk-at_ok (λ n. (n.nodes ≡ c.loop-used.used.nodes) × (3 * n.links ≤ length c.pass_two_line.new.links)) c.in_ok-used.was c.pass_two_line.ensures.ok in
     record {
       bound = omega (arith, c.next_line-end.ensures.high, c.if-end-text.false);
-      links_size = omega (arith, c.loop-r.invariant.links_size);
-      same_nodes = c.pass_two_line-r.ensures.nodes_value.0 ∙ c.loop-r.invariant.same_nodes;
-      link_room = c.pass_two_line-r.ensures.nodes_value.1;
+      links_size = omega (arith, c.loop-used.invariant.links_size);
+      same_nodes = room.0 ∙ c.loop-used.invariant.same_nodes;
+      link_room = room.1;
       turn =
           λ letters l g h.
-          let t = c.loop-r.invariant.turn letters l g h in
-          line-passed t (piece_more c.next_line-end.ensures c.if-end-text.false) (c.pass_two_line-r.ensures.on_links letters l t.graph t.held) c.if-r-ne0.false;
+          let t = c.loop-used.invariant.turn letters l g h in
+          line-passed t (piece_more c.next_line-end.ensures c.if-end-text.false) (c.pass_two_line.ensures.on_links letters l t.graph t.held) c.in_ok-used.was;
     }

@@ -18,8 +18,8 @@ pub record Inv (text nodes links₀ : List ℕ) (used₀ : Counts) (links : List
   pub link_room : 3 * used.links ≤ length links
   pub turn : (letters : List ℕ) (l : Store) (g : Graph) → Held l g (store nodes letters links₀) used₀ → Turn l (pass_two_line l) (lines_of (drop at text)) (pass (pass_two_line l) (going g) (lines_of text)) (store nodes letters links) used
 
-abbrev pub invariant-loop-r : goal.invariant-loop-r
-invariant-loop-r l = Inv l.text l.nodes l.initial.links l.initial.used l.links l.used l.at
+abbrev pub invariant-loop-used : goal.invariant-loop-used
+invariant-loop-used l = Inv l.text l.nodes l.initial.links l.initial.used l.links l.used l.at
 
-abbrev pub decreases-loop-r : goal.decreases-loop-r
-decreases-loop-r l = length l.text - l.at
+abbrev pub decreases-loop-used : goal.decreases-loop-used
+decreases-loop-used l = length l.text - l.at

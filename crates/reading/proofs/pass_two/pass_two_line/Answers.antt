@@ -1,28 +1,19 @@
-use mathlib.Core.Path.{refl, sym, ◌∙◌}
-use borrow.Author.Tests.{not-true, not-false}
+use mathlib.Core.Path.{sym, ◌∙◌}
 use Rattle.reading.proofs.Lines.{two_faulty, two-other, two-link}
 use Rattle.reading.proofs.pass_two.pass_two_line.Goals as goal
 
-pub returns-then-not-said_stored : goal.returns-then-not-said_stored
-returns-then-not-said_stored c = record { nodes_value = (refl, c.requires.1); on_links = λ letters l g h. two_faulty h c.args.line.now c.said_stored.ensures (not-true _ c.if-not-said_stored.true-raw) }
+pub returns-then-not-said_stored-clause-on_links : goal.returns-then-not-said_stored-clause-on_links
+returns-then-not-said_stored-clause-on_links c =
+    λ letters l g h. two_faulty h c.args.line.now c.said_stored.ensures c.if-not-said_stored.true
 
-pub returns-then-not-is_line : goal.returns-then-not-is_line
-returns-then-not-is_line c =
-    record {
-      nodes_value = (refl, c.requires.1);
-      on_links = λ letters l g h.
-          two-other h c.args.line.now c.said_stored.ensures (not-false _ c.if-not-said_stored.false-raw) (sym c.is_line.ensures ∙ not-true _ c.if-not-is_line.true-raw);
-    }
+pub returns-then-not-is_line-clause-on_links : goal.returns-then-not-is_line-clause-on_links
+returns-then-not-is_line-clause-on_links c =
+    λ letters l g h.
+    two-other h c.args.line.now c.said_stored.ensures c.if-not-said_stored.false (sym c.is_line.ensures ∙ c.if-not-is_line.true)
 
-pub add_link-requires : goal.add_link-requires
-add_link-requires c = c.requires.1
-
-pub returns : goal.returns
-returns c =
-    record {
-      nodes_value = c.add_link.ensures.nodes_value;
-      on_links = λ letters l g h.
-          two-link h c.args.line.now c.said_stored.ensures (not-false _ c.if-not-said_stored.false-raw) (sym c.is_line.ensures ∙ not-false _ c.if-not-is_line.false-raw)
-          c.edge_of-e.ensures
-          (c.add_link.ensures.by_index c.args.nodes.now letters l g h);
-    }
+pub returns-clause-on_links : goal.returns-clause-on_links
+returns-clause-on_links c =
+    λ letters l g h.
+    two-link h c.args.line.now c.said_stored.ensures c.if-not-said_stored.false (sym c.is_line.ensures ∙ c.if-not-is_line.false)
+    c.edge_of-e.ensures
+    (c.add_link.ensures.by_index c.args.nodes.now letters l g h)

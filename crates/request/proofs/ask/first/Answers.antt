@@ -1,5 +1,5 @@
 use Prim.Native.Nat.{◌-◌}
-use mathlib.Core.Path.{◌≡◌, refl}
+use mathlib.Core.Path.{◌≡◌, refl, sym, ◌∙◌}
 use native.Mathlib.Omega.{arith}
 use lib.ListN.{length}
 use Rattle.request.proofs.Turns.{no_word, next_word, first_none, first-here, first-later}
@@ -15,13 +15,13 @@ returns-then-end-words c =
     let z : length a.words.now - c.piece_end-end.result ≡ 0 = omega arith in
     rw z (first_none a.role c.loop-role.wanted (no_word c.piece_end-end.ensures c.if-end-words.true) c.loop-role.invariant.1)
 
-pub returns-then-this-role : goal.returns-then-this-role
-returns-then-this-role c =
+pub returns-then-same_role : goal.returns-then-same_role
+returns-then-same_role c =
     let a = c.args in
-    first-here a.role c.loop-role.wanted _ (next_word c.piece_end-end.ensures c.if-end-words.false) c.loop-role.invariant.1 c.role-this.ensures c.if-this-role.true
+    first-here a.role c.loop-role.wanted _ (next_word c.piece_end-end.ensures c.if-end-words.false) c.loop-role.invariant.1 c.role_of-this.ensures (sym c.same_role.ensures ∙ c.if-same_role.true)
 
 pub loop-role-preserved : goal.loop-role-preserved
 loop-role-preserved c =
     let a = c.args in
     let more = next_word c.piece_end-end.ensures c.if-end-words.false in
-    (search rules, first-later a.role c.loop-role.wanted _ more c.loop-role.invariant.1 c.role-this.ensures c.if-this-role.false _ c.wanted_after-wanted.ensures)
+    (search rules, first-later a.role c.loop-role.wanted _ more c.loop-role.invariant.1 c.role_of-this.ensures (sym c.same_role.ensures ∙ c.if-same_role.false) _ c.wanted_after-wanted.ensures)

@@ -1,4 +1,4 @@
-use Prim.Native.Nat.{◌-◌}
+use Prim.Native.Nat.{◌+◌, ◌-◌}
 use mathlib.Core.Path.{◌≡◌, sym, ◌∙◌}
 use native.Mathlib.Omega.{arith}
 use borrow.Author.Rules.{rules}
@@ -10,10 +10,13 @@ pub returns-then-to-line : goal.returns-then-to-line
 returns-then-to-line c =
     let line = c.args.line.now in
     let z : length line - c.piece_end-to.result ≡ 0 = omega arith in
-    rw (z, ← c.loop-left.invariant.1, no_nth c.piece_end-to.ensures c.loop-left.left (omega arith) c.if-to-line.true)
+    rw (z, ← c.loop.invariant.1, no_nth c.piece_end-to.ensures (c.args.k - c.loop.counter) (omega arith) c.if-to-line.true)
 
-pub loop-left-preserved : goal.loop-left-preserved
-loop-left-preserved c = (search rules, sym (nth_later c.piece_end-to.ensures c.loop-left.left (omega arith) c.if-to-line.false) ∙ c.loop-left.invariant.1)
+pub loop-preserved : goal.loop-preserved
+loop-preserved c =
+    let line = c.args.line.now in
+    let z : c.args.k - (c.loop.counter + 1) ≡ (c.args.k - c.loop.counter) - 1 = omega arith in
+    (search rules, rw z (sym (nth_later c.piece_end-to.ensures (c.args.k - c.loop.counter) (omega arith) c.if-to-line.false) ∙ c.loop.invariant.1))
 
 pub returns : goal.returns
-returns c = sym (nth_here c.piece_end-to-2.ensures c.loop-left.left (omega arith)) ∙ c.loop-left.invariant.1
+returns c = sym (nth_here c.piece_end-to-2.ensures (c.args.k - c.loop.counter) (omega arith)) ∙ c.loop.invariant.1

@@ -11,7 +11,7 @@ use Rattle.verdict.proofs.Protected.{seen_before, node_repeats, node-fresh, no_n
 use Rattle.verdict.proofs.repeats.first_repeat.Goals as goal
 
 pub loop-i-init : goal.loop-i-init
-loop-i-init c = (omega arith, refl)
+loop-i-init c = refl
 
 pub slice_bounds-repeats-end : goal.slice_bounds-repeats-end
 slice_bounds-repeats-end c = sym (length-take-le c.loop-i.i c.args.protected.now (omega arith))
@@ -26,7 +26,7 @@ returns-then-repeats c =
     let t = list_of a.rules.now a.steps.now a.u in
     let p = a.protected.now in
     let e = not-true (no_repeat (seen_before old t p c.loop-i.i) (protected_ids old t (get_or p c.loop-i.i 0))) (sym c.repeats.ensures ∙ c.if-repeats.true) in
-    sym (node_repeats old t p c.loop-i.i (omega arith) e) ∙ c.loop-i.invariant.1
+    sym (node_repeats old t p c.loop-i.i (omega arith) e) ∙ c.loop-i.invariant
 
 pub loop-i-preserved : goal.loop-i-preserved
 loop-i-preserved c =
@@ -35,11 +35,11 @@ loop-i-preserved c =
     let t = list_of a.rules.now a.steps.now a.u in
     let p = a.protected.now in
     let e = not-false (no_repeat (seen_before old t p c.loop-i.i) (protected_ids old t (get_or p c.loop-i.i 0))) (sym c.repeats.ensures ∙ c.if-repeats.false) in
-    (omega arith, sym (node-fresh old t p c.loop-i.i (omega arith) e) ∙ c.loop-i.invariant.1)
+    sym (node-fresh old t p c.loop-i.i (omega arith) e) ∙ c.loop-i.invariant
 
 pub returns : goal.returns
 returns c =
     let a = c.args in
     let old = graph_of a.oldnodes.now [] [] a.c in
     let t = list_of a.rules.now a.steps.now a.u in
-    sym (no_node-left old t a.protected.now c.loop-i.i (omega arith)) ∙ c.loop-i.invariant.1
+    sym (no_node-left old t a.protected.now c.loop-i.i (omega arith)) ∙ c.loop-i.invariant

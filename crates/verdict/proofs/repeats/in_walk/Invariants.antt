@@ -1,4 +1,3 @@
-use Prim.Native.Nat.{◌-◌, ◌≤◌}
 use mathlib.Core.Path.{◌≡◌}
 use lib.Dec.{eqb}
 use lib.ListN.{drop}
@@ -7,7 +6,4 @@ use Rattle.verdict.proofs.Protected.{ids_on}
 use Rattle.verdict.proofs.repeats.in_walk.Given as goal
 
 abbrev pub invariant-loop-j : goal.invariant-loop-j
-invariant-loop-j l = (l.j ≤ l.count) × (any (eqb l.id) (drop l.j (ids_on l.total l.steps l.first l.count)) ≡ any (eqb l.id) (ids_on l.total l.steps l.first l.count))
-
-abbrev pub decreases-loop-j : goal.decreases-loop-j
-decreases-loop-j l = l.count - l.j
+invariant-loop-j l = any (eqb l.id) (drop l.j (ids_on l.total l.steps l.first l.count)) ≡ any (eqb l.id) (ids_on l.total l.steps l.first l.count)

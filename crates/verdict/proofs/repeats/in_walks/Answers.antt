@@ -28,7 +28,7 @@ returns-then-in_walk c =
     ap (any (eqb a.id)) (sym (walk_ids a.oldnodes.now a.rules.now a.steps.now a.c a.u (get_or a.before.now c.loop-k.k 0) c.walk_of-w.result c.walk_of-w.ensures)) ∙ sym c.in_walk.ensures
     in
     let a = c.args in
-    sym (walk_hit (protected_ids (graph_of a.oldnodes.now [] [] a.c) (list_of a.rules.now a.steps.now a.u)) a.id a.before.now c.loop-k.k (omega arith) (met_so ∙ c.if-in_walk.true)) ∙ c.loop-k.invariant.1
+    sym (walk_hit (protected_ids (graph_of a.oldnodes.now [] [] a.c) (list_of a.rules.now a.steps.now a.u)) a.id a.before.now c.loop-k.k (omega arith) (met_so ∙ c.if-in_walk.true)) ∙ c.loop-k.invariant
 
 pub loop-k-preserved : goal.loop-k-preserved
 loop-k-preserved c =
@@ -37,10 +37,10 @@ loop-k-preserved c =
     ap (any (eqb a.id)) (sym (walk_ids a.oldnodes.now a.rules.now a.steps.now a.c a.u (get_or a.before.now c.loop-k.k 0) c.walk_of-w.result c.walk_of-w.ensures)) ∙ sym c.in_walk.ensures
     in
     let a = c.args in
-    (omega arith, sym (walk_miss (protected_ids (graph_of a.oldnodes.now [] [] a.c) (list_of a.rules.now a.steps.now a.u)) a.id a.before.now c.loop-k.k (omega arith) (met_so ∙ c.if-in_walk.false)) ∙ c.loop-k.invariant.1)
+    sym (walk_miss (protected_ids (graph_of a.oldnodes.now [] [] a.c) (list_of a.rules.now a.steps.now a.u)) a.id a.before.now c.loop-k.k (omega arith) (met_so ∙ c.if-in_walk.false)) ∙ c.loop-k.invariant
 
 pub returns : goal.returns
 returns c =
     let a = c.args in
     let ids = protected_ids (graph_of a.oldnodes.now [] [] a.c) (list_of a.rules.now a.steps.now a.u) in
-    sym (walk_end ids a.id a.before.now c.loop-k.k (omega arith)) ∙ c.loop-k.invariant.1
+    sym (walk_end ids a.id a.before.now c.loop-k.k (omega arith)) ∙ c.loop-k.invariant

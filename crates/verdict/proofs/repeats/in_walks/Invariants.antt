@@ -1,8 +1,7 @@
 use mathlib.Core.List.{[]}
-use Prim.Native.Nat.{◌-◌, ◌≤◌}
 use mathlib.Core.Path.{◌≡◌}
 use lib.Dec.{eqb}
-use lib.ListN.{length, drop}
+use lib.ListN.{drop}
 use Rattle.kit.specs.Loops.{any, lines}
 use Rattle.store.specs.Graph.{graph_of}
 use Rattle.events.specs.Events.{list_of}
@@ -10,7 +9,4 @@ use Rattle.verdict.specs.Conditions.{protected_ids}
 use Rattle.verdict.proofs.repeats.in_walks.Given as goal
 
 abbrev pub invariant-loop-k : goal.invariant-loop-k
-invariant-loop-k l = (l.k ≤ length l.before) × (any (eqb l.id) (lines (protected_ids (graph_of l.oldnodes [] [] l.c) (list_of l.rules l.steps l.u)) (drop l.k l.before)) ≡ any (eqb l.id) (lines (protected_ids (graph_of l.oldnodes [] [] l.c) (list_of l.rules l.steps l.u)) l.before))
-
-abbrev pub decreases-loop-k : goal.decreases-loop-k
-decreases-loop-k l = length l.before - l.k
+invariant-loop-k l = any (eqb l.id) (lines (protected_ids (graph_of l.oldnodes [] [] l.c) (list_of l.rules l.steps l.u)) (drop l.k l.before)) ≡ any (eqb l.id) (lines (protected_ids (graph_of l.oldnodes [] [] l.c) (list_of l.rules l.steps l.u)) l.before)

@@ -7,6 +7,8 @@ use lib.Dec.{eqb}
 use lib.ListN.{length, take, get_or}
 use Rattle.kit.specs.Loops.{any, lines}
 use Rattle.store.specs.Graph.{graph_of}
+use Rattle.handle.specs.Handle.{id_of}
+use Rattle.events.specs.declared.Step.{Step}
 use Rattle.events.specs.Events.{list_of}
 use Rattle.events.proofs.Says.{table-room}
 use Rattle.verdict.specs.Conditions.{protected_ids}
@@ -22,39 +24,23 @@ pub loop-j-init : goal.loop-j-init
 loop-j-init c =
     let a = c.args in
     let ids = protected_ids (graph_of a.oldnodes.now [] [] a.c) (list_of a.rules.now a.steps.now a.u) in
-    (omega arith, fresh-first (lines ids a.before.now) (ids a.id))
+    fresh-first (lines ids a.before.now) (ids a.id)
 
-pub overflow_add-h : goal.overflow_add-h
-overflow_add-h c =
+pub overflow_add-first : goal.overflow_add-first
+overflow_add-first c =
     let bounds : (c.walk_of-w.result.first + c.walk_of-w.result.count ≤ c.args.u.steps) × (2 * c.args.u.steps ≤ length c.args.steps.now) =
     let a = c.args in
     (walk_inside a.oldnodes.now a.rules.now a.steps.now a.c a.u a.id c.walk_of-w.result c.walk_of-w.ensures c.requires.1, (table-room a.rules.now a.steps.now a.u c.requires.1).step_room)
     in
-    omega (arith, bounds, c.loop-j.invariant.0)
+    omega (arith, bounds)
 
-pub overflow_mul-h : goal.overflow_mul-h
-overflow_mul-h c =
+pub at-requires : goal.at-requires
+at-requires c =
     let bounds : (c.walk_of-w.result.first + c.walk_of-w.result.count ≤ c.args.u.steps) × (2 * c.args.u.steps ≤ length c.args.steps.now) =
     let a = c.args in
     (walk_inside a.oldnodes.now a.rules.now a.steps.now a.c a.u a.id c.walk_of-w.result c.walk_of-w.ensures c.requires.1, (table-room a.rules.now a.steps.now a.u c.requires.1).step_room)
     in
-    omega (arith, bounds, c.loop-j.invariant.0)
-
-pub offset_bounds-steps-first : goal.offset_bounds-steps-first
-offset_bounds-steps-first c =
-    let bounds : (c.walk_of-w.result.first + c.walk_of-w.result.count ≤ c.args.u.steps) × (2 * c.args.u.steps ≤ length c.args.steps.now) =
-    let a = c.args in
-    (walk_inside a.oldnodes.now a.rules.now a.steps.now a.c a.u a.id c.walk_of-w.result c.walk_of-w.ensures c.requires.1, (table-room a.rules.now a.steps.now a.u c.requires.1).step_room)
-    in
-    omega (arith, bounds, c.loop-j.invariant.0)
-
-pub bounds-steps-first : goal.bounds-steps-first
-bounds-steps-first c =
-    let bounds : (c.walk_of-w.result.first + c.walk_of-w.result.count ≤ c.args.u.steps) × (2 * c.args.u.steps ≤ length c.args.steps.now) =
-    let a = c.args in
-    (walk_inside a.oldnodes.now a.rules.now a.steps.now a.c a.u a.id c.walk_of-w.result c.walk_of-w.ensures c.requires.1, (table-room a.rules.now a.steps.now a.u c.requires.1).step_room)
-    in
-    omega (arith, bounds, c.loop-j.invariant.0)
+    omega (arith, bounds)
 
 pub in_walks-requires : goal.in_walks-requires
 in_walks-requires c = c.requires
@@ -63,7 +49,7 @@ pub returns-then-in_walks : goal.returns-then-in_walks
 returns-then-in_walks c =
     let node_so : get_or (protected_ids (graph_of c.args.oldnodes.now [] [] c.args.c) (list_of c.args.rules.now c.args.steps.now c.args.u) c.args.id) c.loop-j.j 0 ≡ c.id-node.result =
     let a = c.args in
-    walk_node a.oldnodes.now a.rules.now a.steps.now a.c a.u a.id c.walk_of-w.result c.walk_of-w.ensures c.requires.1 c.loop-j.j (omega arith) ∙ sym c.id-node.ensures
+    walk_node a.oldnodes.now a.rules.now a.steps.now a.c a.u a.id c.walk_of-w.result c.walk_of-w.ensures c.requires.1 c.loop-j.j (omega arith) ∙ sym (c.id-node.ensures ∙ ap (λ (s : Step). id_of s.node) c.at.ensures)
     in
     let seen_so : any (eqb (get_or (protected_ids (graph_of c.args.oldnodes.now [] [] c.args.c) (list_of c.args.rules.now c.args.steps.now c.args.u) c.args.id) c.loop-j.j 0)) (lines (protected_ids (graph_of c.args.oldnodes.now [] [] c.args.c) (list_of c.args.rules.now c.args.steps.now c.args.u)) c.args.before.now) ≡ c.in_walks.result =
     let a = c.args in
@@ -71,7 +57,7 @@ returns-then-in_walks c =
     in
     let a = c.args in
     let n = walk_length a.oldnodes.now a.rules.now a.steps.now a.c a.u a.id c.walk_of-w.result c.walk_of-w.ensures c.requires.1 c.loop-j.j in
-    sym (ap not (sym c.loop-j.invariant.1 ∙ fresh_seen (lines (protected_ids (graph_of a.oldnodes.now [] [] a.c) (list_of a.rules.now a.steps.now a.u)) a.before.now) (protected_ids (graph_of a.oldnodes.now [] [] a.c) (list_of a.rules.now a.steps.now a.u) a.id) c.loop-j.j (omega arith) (seen_so ∙ c.if-in_walks.true)))
+    sym (ap not (sym c.loop-j.invariant ∙ fresh_seen (lines (protected_ids (graph_of a.oldnodes.now [] [] a.c) (list_of a.rules.now a.steps.now a.u)) a.before.now) (protected_ids (graph_of a.oldnodes.now [] [] a.c) (list_of a.rules.now a.steps.now a.u) a.id) c.loop-j.j (omega arith) (seen_so ∙ c.if-in_walks.true)))
 
 pub in_walk-requires : goal.in_walk-requires
 in_walk-requires c =
@@ -80,13 +66,13 @@ in_walk-requires c =
     (walk_inside a.oldnodes.now a.rules.now a.steps.now a.c a.u a.id c.walk_of-w.result c.walk_of-w.ensures c.requires.1, (table-room a.rules.now a.steps.now a.u c.requires.1).step_room)
     in
     let a = c.args in
-    ((table-room a.rules.now a.steps.now a.u c.requires.1).step_room, omega (arith, (bounds).0, c.loop-j.invariant.0))
+    ((table-room a.rules.now a.steps.now a.u c.requires.1).step_room, omega (arith, (bounds).0))
 
 pub returns-then-in_walk : goal.returns-then-in_walk
 returns-then-in_walk c =
     let node_so : get_or (protected_ids (graph_of c.args.oldnodes.now [] [] c.args.c) (list_of c.args.rules.now c.args.steps.now c.args.u) c.args.id) c.loop-j.j 0 ≡ c.id-node.result =
     let a = c.args in
-    walk_node a.oldnodes.now a.rules.now a.steps.now a.c a.u a.id c.walk_of-w.result c.walk_of-w.ensures c.requires.1 c.loop-j.j (omega arith) ∙ sym c.id-node.ensures
+    walk_node a.oldnodes.now a.rules.now a.steps.now a.c a.u a.id c.walk_of-w.result c.walk_of-w.ensures c.requires.1 c.loop-j.j (omega arith) ∙ sym (c.id-node.ensures ∙ ap (λ (s : Step). id_of s.node) c.at.ensures)
     in
     let seen_so : any (eqb (get_or (protected_ids (graph_of c.args.oldnodes.now [] [] c.args.c) (list_of c.args.rules.now c.args.steps.now c.args.u) c.args.id) c.loop-j.j 0)) (lines (protected_ids (graph_of c.args.oldnodes.now [] [] c.args.c) (list_of c.args.rules.now c.args.steps.now c.args.u)) c.args.before.now) ≡ c.in_walks.result =
     let a = c.args in
@@ -98,13 +84,13 @@ returns-then-in_walk c =
     in
     let a = c.args in
     let n = walk_length a.oldnodes.now a.rules.now a.steps.now a.c a.u a.id c.walk_of-w.result c.walk_of-w.ensures c.requires.1 c.loop-j.j in
-    sym (ap not (sym c.loop-j.invariant.1 ∙ fresh_again (lines (protected_ids (graph_of a.oldnodes.now [] [] a.c) (list_of a.rules.now a.steps.now a.u)) a.before.now) (protected_ids (graph_of a.oldnodes.now [] [] a.c) (list_of a.rules.now a.steps.now a.u) a.id) c.loop-j.j (omega (arith, n, c.loop-j-test.true)) (seen_so ∙ c.if-in_walks.false) (again_so ∙ c.if-in_walk.true)))
+    sym (ap not (sym c.loop-j.invariant ∙ fresh_again (lines (protected_ids (graph_of a.oldnodes.now [] [] a.c) (list_of a.rules.now a.steps.now a.u)) a.before.now) (protected_ids (graph_of a.oldnodes.now [] [] a.c) (list_of a.rules.now a.steps.now a.u) a.id) c.loop-j.j (omega (arith, n)) (seen_so ∙ c.if-in_walks.false) (again_so ∙ c.if-in_walk.true)))
 
 pub loop-j-preserved : goal.loop-j-preserved
 loop-j-preserved c =
     let node_so : get_or (protected_ids (graph_of c.args.oldnodes.now [] [] c.args.c) (list_of c.args.rules.now c.args.steps.now c.args.u) c.args.id) c.loop-j.j 0 ≡ c.id-node.result =
     let a = c.args in
-    walk_node a.oldnodes.now a.rules.now a.steps.now a.c a.u a.id c.walk_of-w.result c.walk_of-w.ensures c.requires.1 c.loop-j.j (omega arith) ∙ sym c.id-node.ensures
+    walk_node a.oldnodes.now a.rules.now a.steps.now a.c a.u a.id c.walk_of-w.result c.walk_of-w.ensures c.requires.1 c.loop-j.j (omega arith) ∙ sym (c.id-node.ensures ∙ ap (λ (s : Step). id_of s.node) c.at.ensures)
     in
     let seen_so : any (eqb (get_or (protected_ids (graph_of c.args.oldnodes.now [] [] c.args.c) (list_of c.args.rules.now c.args.steps.now c.args.u) c.args.id) c.loop-j.j 0)) (lines (protected_ids (graph_of c.args.oldnodes.now [] [] c.args.c) (list_of c.args.rules.now c.args.steps.now c.args.u)) c.args.before.now) ≡ c.in_walks.result =
     let a = c.args in
@@ -116,7 +102,7 @@ loop-j-preserved c =
     in
     let a = c.args in
     let n = walk_length a.oldnodes.now a.rules.now a.steps.now a.c a.u a.id c.walk_of-w.result c.walk_of-w.ensures c.requires.1 c.loop-j.j in
-    (omega (arith, c.loop-j-test.true), sym (fresh-next (lines (protected_ids (graph_of a.oldnodes.now [] [] a.c) (list_of a.rules.now a.steps.now a.u)) a.before.now) (protected_ids (graph_of a.oldnodes.now [] [] a.c) (list_of a.rules.now a.steps.now a.u) a.id) c.loop-j.j (omega (arith, n, c.loop-j-test.true)) (seen_so ∙ c.if-in_walks.false) (again_so ∙ c.if-in_walk.false)) ∙ c.loop-j.invariant.1)
+    sym (fresh-next (lines (protected_ids (graph_of a.oldnodes.now [] [] a.c) (list_of a.rules.now a.steps.now a.u)) a.before.now) (protected_ids (graph_of a.oldnodes.now [] [] a.c) (list_of a.rules.now a.steps.now a.u) a.id) c.loop-j.j (omega (arith, n)) (seen_so ∙ c.if-in_walks.false) (again_so ∙ c.if-in_walk.false)) ∙ c.loop-j.invariant
 
 pub returns : goal.returns
 returns c =
@@ -124,4 +110,4 @@ returns c =
     let old = graph_of a.oldnodes.now [] [] a.c in
     let t = list_of a.rules.now a.steps.now a.u in
     let n = walk_length a.oldnodes.now a.rules.now a.steps.now a.c a.u a.id c.walk_of-w.result c.walk_of-w.ensures c.requires.1 c.loop-j.j in
-    sym (ap not (sym c.loop-j.invariant.1 ∙ fresh_end (lines (protected_ids old t) a.before.now) (protected_ids old t a.id) c.loop-j.j (omega arith)))
+    sym (ap not (sym c.loop-j.invariant ∙ fresh_end (lines (protected_ids old t) a.before.now) (protected_ids old t a.id) c.loop-j.j (omega arith)))

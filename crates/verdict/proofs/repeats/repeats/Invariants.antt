@@ -1,5 +1,4 @@
 use mathlib.Core.List.{[]}
-use Prim.Native.Nat.{◌-◌, ◌≤◌}
 use mathlib.Core.Path.{◌≡◌}
 use Rattle.kit.specs.Loops.{lines}
 use Rattle.store.specs.Graph.{graph_of}
@@ -9,7 +8,4 @@ use Rattle.verdict.proofs.Protected.{fresh}
 use Rattle.verdict.proofs.repeats.repeats.Given as goal
 
 abbrev pub invariant-loop-j : goal.invariant-loop-j
-invariant-loop-j l = (l.j ≤ l.count) × (fresh (lines (protected_ids (graph_of l.oldnodes [] [] l.c) (list_of l.rules l.steps l.u)) l.before) (protected_ids (graph_of l.oldnodes [] [] l.c) (list_of l.rules l.steps l.u) l.id) l.j ≡ no_repeat (lines (protected_ids (graph_of l.oldnodes [] [] l.c) (list_of l.rules l.steps l.u)) l.before) (protected_ids (graph_of l.oldnodes [] [] l.c) (list_of l.rules l.steps l.u) l.id))
-
-abbrev pub decreases-loop-j : goal.decreases-loop-j
-decreases-loop-j l = l.count - l.j
+invariant-loop-j l = fresh (lines (protected_ids (graph_of l.oldnodes [] [] l.c) (list_of l.rules l.steps l.u)) l.before) (protected_ids (graph_of l.oldnodes [] [] l.c) (list_of l.rules l.steps l.u) l.id) l.j ≡ no_repeat (lines (protected_ids (graph_of l.oldnodes [] [] l.c) (list_of l.rules l.steps l.u)) l.before) (protected_ids (graph_of l.oldnodes [] [] l.c) (list_of l.rules l.steps l.u) l.id)

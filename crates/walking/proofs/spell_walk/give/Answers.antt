@@ -4,7 +4,7 @@ use mathlib.Core.List.{[], List, ◌++◌}
 use native.Mathlib.Omega.{arith}
 use borrow.Author.Tests.{lt-ltb, le-ltb}
 use lib.ListN.{length, drop}
-use Rattle.kit.specs.declared.Found.TheVariants.{At, Nothing}
+use Rattle.std.specs.Prelude.{Some, None}
 use Rattle.store.specs.Graph.{nodes_of, graph_of}
 use Rattle.affix.specs.Prefix.{handles_of}
 use Rattle.spelling.specs.Spelling.{spell_walk}
@@ -16,19 +16,16 @@ use Rattle.walking.proofs.spell_walk.give.Goals as goal
 
 -- letters of length n, measured against the room
 module _ (letters out : List ℕ) (n : ℕ) (e : length letters ≡ n) where
-  exceeds : within (length out) n ≡ Nothing → given letters out ≡ refused 7 0 out
+  exceeds : within (length out) n ≡ None → given letters out ≡ refused 7 0 out
   exceeds q = rw (lt-ltb (length out) (length letters) (omega (arith, measure_exceeds (length out) n q)))
 
-  fits : (k : ℕ) → within (length out) n ≡ At k → length letters ≤ length out
+  fits : (k : ℕ) → within (length out) n ≡ Some k → length letters ≤ length out
   fits k q = omega (arith, (measure_fits (length out) n k q).1)
 
-  stands : (k : ℕ) → within (length out) n ≡ At k → given letters out ≡ outcome (answer 0 0 k) (letters ++ drop (length letters) out)
+  stands : (k : ℕ) → within (length out) n ≡ Some k → given letters out ≡ outcome (answer 0 0 k) (letters ++ drop (length letters) out)
   stands k q =
       rw (le-ltb (length out) (length letters) (fits k q))
       (ap (λ (m : ℕ). outcome (answer 0 0 m) (letters ++ drop (length letters) out)) (omega (arith, (measure_fits (length out) n k q).0)))
-
-pub spelled_len-requires : goal.spelled_len-requires
-spelled_len-requires c = c.requires.node_room
 
 pub returns-in_default : goal.returns-in_default
 returns-in_default c =
@@ -44,7 +41,7 @@ write_spelling-requires c =
     let letters = spell_walk (graph_of a.nodes.now a.text.now [] a.c) (handles_of a.walk.now) in
     let n = walk_len (nodes_of a.c.nodes a.nodes.now) (handles_of a.walk.now) in
     let e = spelled-length a.nodes.now a.text.now a.c c.requires (handles_of a.walk.now) in
-    record { readable = c.requires; walk_in_bounds = fits letters a.out.now n e _ (sym c.spelled_len.ensures ∙ c.in-At.is) }
+    record { readable = c.requires; walk_in_bounds = fits letters a.out.now n e _ (sym c.spelled_len.ensures ∙ c.in-Some.is) }
 
 pub returns : goal.returns
 returns c =
@@ -52,4 +49,4 @@ returns c =
     let letters = spell_walk (graph_of a.nodes.now a.text.now [] a.c) (handles_of a.walk.now) in
     let n = walk_len (nodes_of a.c.nodes a.nodes.now) (handles_of a.walk.now) in
     let e = spelled-length a.nodes.now a.text.now a.c c.requires (handles_of a.walk.now) in
-    ap (outcome (answer 0 0 c.in-At.length)) c.write_spelling.ensures ∙ sym (stands letters a.out.now n e c.in-At.length (sym c.spelled_len.ensures ∙ c.in-At.is))
+    ap (outcome (answer 0 0 c.in-Some.length)) c.write_spelling.ensures ∙ sym (stands letters a.out.now n e c.in-Some.length (sym c.spelled_len.ensures ∙ c.in-Some.is))
