@@ -3,7 +3,7 @@
 #![tactic(auto)]
 
 ghost use Rattle.std.specs.Prelude.{IfSome, ◌+◌, ◌*◌, ◌≤◌, ◌<◌, ◌≡◌, true, ◌&&◌, eqb, length, drop};
-ghost use Rattle.kit.specs.Loops.{all, any};
+ghost use Rattle.kit.specs.Loops.{all, any, find_from};
 ghost use Rattle.std.proofs.lemmas.List.Edits.{sets};
 ghost use Rattle.events.specs.Events.{pack_rule, pack_step, rule_at, step_at, rules_of, steps_of, list_of, find_rule, keyed};
 ghost use Rattle.events.specs.WellFormed.{room_for_rules, good_rule, good_step, has_step, keys_once, table_formed, events_formed, steps_later, in_order};
@@ -88,13 +88,13 @@ pub fn same_key(id: u64, len: u64, other: u64, size: u64) -> bool
     id == other && len == size
 }
 
-// The slot of the first rule under this key.
-pub fn find_rule(rules: &[u64], count: usize, id: u64, len: u64) -> Option<usize>
+// The slot of the first rule under this key at slot `start` or later.
+pub fn next_rule(rules: &[u64], count: usize, start: usize, id: u64, len: u64) -> Option<usize>
     requires { 4 * count ≤ length rules.now }
-    ensures value { result ≡ find_rule id len (rules_of count rules.now) }
+    ensures value { result ≡ find_from (keyed id len) start (drop start (rules_of count rules.now)) }
     ensures within { IfSome result (λ i. i < count) }
 {
-    for i in 0..count {
+    for i in start..count {
         let r = Rule::at(rules, i);
         if same_key(r.id, r.len, id, len) {
             return Some(i);
@@ -103,18 +103,21 @@ pub fn find_rule(rules: &[u64], count: usize, id: u64, len: u64) -> Option<usize
     None
 }
 
+// The slot of the first rule under this key.
+pub fn find_rule(rules: &[u64], count: usize, id: u64, len: u64) -> Option<usize>
+    requires { 4 * count ≤ length rules.now }
+    ensures value { result ≡ find_rule id len (rules_of count rules.now) }
+    ensures within { IfSome result (λ i. i < count) }
+{
+    next_rule(rules, count, 0, id, len)
+}
+
 // Whether a rule under this key stands at slot `start` or later.
 fn key_again(rules: &[u64], count: usize, start: usize, id: u64, len: u64) -> bool
     requires { 4 * count ≤ length rules.now }
     ensures { result ≡ any (keyed id len) (drop start (rules_of count rules.now)) }
 {
-    for i in start..count {
-        let r = Rule::at(rules, i);
-        if same_key(r.id, r.len, id, len) {
-            return true;
-        }
-    }
-    false
+    next_rule(rules, count, start, id, len).is_some()
 }
 
 pub fn keys_once(rules: &[u64], count: usize) -> bool

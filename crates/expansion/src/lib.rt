@@ -17,20 +17,6 @@ ghost use Rattle.expansion.specs.Filling.{toward, part_of, event_walk, node_in, 
 use events::{Rule, Step, Used};
 use handle::Handle;
 
-// The slot of the first rule under this key at slot `start` or later.
-fn next_rule(rules: &[u64], count: usize, start: usize, id: u64, len: u64) -> Option<usize>
-    requires { 4 * count ≤ length rules.now }
-    ensures { result ≡ find_from (keyed id len) start (drop start (rules_of count rules.now)) }
-{
-    for i in start..count {
-        let r = Rule::at(rules, i);
-        if events::same_key(r.id, r.len, id, len) {
-            return Some(i);
-        }
-    }
-    None
-}
-
 // Which of a walk's n steps comes k-th, where it is turned counted from its end.
 fn nth(n: usize, k: usize, forward: bool) -> usize
     requires { k < n }
@@ -65,7 +51,7 @@ fn expand_node(
     requires { Ready rules.now steps.old c ahead at (node_in rules.now steps.old c ahead (step_to node len)) }
     ensures { Written steps.old at (node_in rules.now steps.old c ahead (step_to node len)) steps.new result }
 {
-    let Some(j) = next_rule(rules, c.rules, ahead, node.id(), len) else {
+    let Some(j) = events::next_rule(rules, c.rules, ahead, node.id(), len) else {
         let s = Step { node, len };
         s.put(steps, at);
         return at + 1;
@@ -124,7 +110,7 @@ fn node_len(rules: &[u64], count: usize, lens: &[u64], ahead: usize, id: u64, le
     requires { (4 * count ≤ length rules.now) × (count ≤ length lens.now) }
     ensures { result ≡ size_at lens.now (find_from (keyed id len) ahead (drop ahead (rules_of count rules.now))) }
 {
-    let Some(j) = next_rule(rules, count, ahead, id, len) else {
+    let Some(j) = events::next_rule(rules, count, ahead, id, len) else {
         return 1;
     };
     lens[j]

@@ -1,27 +1,11 @@
-use mathlib.Core.Path.{sym, ap, ◌∙◌}
-use native.Mathlib.Omega.{arith}
-use Rattle.events.proofs.Fields.{left-rule}
-use Rattle.events.specs.Events.{rule_layout, keyed}
-use Rattle.kit.proofs.Steps.{any_hit, any_miss, any_end}
-use Rattle.kit.proofs.Laws.{left_none}
+use mathlib.Core.Path.{ap, ◌∙◌}
+use lib.ListN.{drop}
+use Rattle.std.specs.Option.{is_some}
+use Rattle.kit.proofs.Meaning.{found_some}
+use Rattle.events.specs.Events.{rules_of, keyed}
 use Rattle.events.proofs.key_again.Goals as goal
-
-pub returns-then-same_key : goal.returns-then-same_key
-returns-then-same_key c =
-    let a = c.args in
-    let i = c.loop-i.i in
-    let more = left-rule a.count i a.rules.now (omega arith) in
-    sym (any_hit (keyed a.id a.len) more (ap (keyed a.id a.len) (sym c.at-r.ensures) ∙ sym c.same_key.ensures ∙ c.if-same_key.true)) ∙ c.loop-i.invariant
-
-pub loop-i-preserved : goal.loop-i-preserved
-loop-i-preserved c =
-    let a = c.args in
-    let i = c.loop-i.i in
-    let more = left-rule a.count i a.rules.now (omega arith) in
-    sym (any_miss (keyed a.id a.len) more (ap (keyed a.id a.len) (sym c.at-r.ensures) ∙ sym c.same_key.ensures ∙ c.if-same_key.false)) ∙ c.loop-i.invariant
 
 pub returns : goal.returns
 returns c =
     let a = c.args in
-    let i = c.loop-i.i in
-    sym (any_end (keyed a.id a.len) (left_none rule_layout a.count i a.rules.now (omega arith))) ∙ c.loop-i.invariant
+    c.is_some.ensures ∙ ap is_some c.next_rule.ensures.value ∙ found_some (keyed a.id a.len) a.start (drop a.start (rules_of a.count a.rules.now))

@@ -32,38 +32,38 @@ module _ (rules steps : List ℕ) (c : Used) (ahead at : ℕ) (node : Handle) (l
 pub expand_node-put-requires : goal.expand_node-put-requires
 expand_node-put-requires t c =
     let a = c.args in
-    let one = ap length (node-miss a.rules.now a.steps.now a.c a.ahead a.at a.node a.len c.id.result c.next_rule.result c.id.ensures c.next_rule.ensures c.in_default.is) in
+    let one = ap length (node-miss a.rules.now a.steps.now a.c a.ahead a.at a.node a.len c.id.result c.next_rule.result c.id.ensures c.next_rule.ensures.value c.in_default.is) in
     omega (arith, one, c.requires.fits, c.requires.step_room)
 
 pub expand_node-returns-in_default : goal.expand_node-returns-in_default
 expand_node-returns-in_default t c =
     let a = c.args in
-    let one = node-miss a.rules.now a.steps.now a.c a.ahead a.at a.node a.len c.id.result c.next_rule.result c.id.ensures c.next_rule.ensures c.in_default.is in
+    let one = node-miss a.rules.now a.steps.now a.c a.ahead a.at a.node a.len c.id.result c.next_rule.result c.id.ensures c.next_rule.ensures.value c.in_default.is in
     rw one record { place = refl; numbers = c.put.ensures }
 
 pub expand_node-at-r-requires : goal.expand_node-at-r-requires
 expand_node-at-r-requires t c =
     let a = c.args in
-    let h = node-hit a.rules.now a.steps.now a.c a.ahead a.at a.node a.len c.id.result c.next_rule.result c.id.ensures c.next_rule.ensures c.in-Some.j c.requires c.in-Some.is in
+    let h = node-hit a.rules.now a.steps.now a.c a.ahead a.at a.node a.len c.id.result c.next_rule.result c.id.ensures c.next_rule.ensures.value c.in-Some.j c.requires c.in-Some.is in
     omega (arith, h.high)
 
 pub expand_node-overflow_add-j : goal.expand_node-overflow_add-j
 expand_node-overflow_add-j t c =
     let a = c.args in
-    let h = node-hit a.rules.now a.steps.now a.c a.ahead a.at a.node a.len c.id.result c.next_rule.result c.id.ensures c.next_rule.ensures c.in-Some.j c.requires c.in-Some.is in
+    let h = node-hit a.rules.now a.steps.now a.c a.ahead a.at a.node a.len c.id.result c.next_rule.result c.id.ensures c.next_rule.ensures.value c.in-Some.j c.requires c.in-Some.is in
     omega (arith, h.high)
 
 pub expand_node-expand_walk-requires : goal.expand_node-expand_walk-requires
 expand_node-expand_walk-requires t c =
     let a = c.args in
-    let h = node-hit a.rules.now a.steps.now a.c a.ahead a.at a.node a.len c.id.result c.next_rule.result c.id.ensures c.next_rule.ensures c.in-Some.j c.requires c.in-Some.is in
+    let h = node-hit a.rules.now a.steps.now a.c a.ahead a.at a.node a.len c.id.result c.next_rule.result c.id.ensures c.next_rule.ensures.value c.in-Some.j c.requires c.in-Some.is in
     rw (c.direction-forward.ensures, c.at-r.ensures)
     (omega (arith, h.low, h.high, c.decreases), (h.ready, h.below, h.inside))
 
 pub expand_node-returns : goal.expand_node-returns
 expand_node-returns t c =
     let a = c.args in
-    let h = node-hit a.rules.now a.steps.now a.c a.ahead a.at a.node a.len c.id.result c.next_rule.result c.id.ensures c.next_rule.ensures c.in-Some.j c.requires c.in-Some.is in
+    let h = node-hit a.rules.now a.steps.now a.c a.ahead a.at a.node a.len c.id.result c.next_rule.result c.id.ensures c.next_rule.ensures.value c.in-Some.j c.requires c.in-Some.is in
     rw h.same (rw (c.direction-forward.ensures, c.at-r.ensures) at c.expand_walk.ensures)
 
 -- the node that the turn reads is the walk's k-th

@@ -9,12 +9,12 @@ use Rattle.expansion.proofs.Lengths.{found_below}
 use Rattle.expansion.proofs.node_len.Goals as goal
 
 pub returns-in_default : goal.returns-in_default
-returns-in_default c = rw (sym c.next_rule.ensures ∙ c.in_default.is)
+returns-in_default c = rw (sym c.next_rule.ensures.value ∙ c.in_default.is)
 
 pub offset_bounds-lens-j : goal.offset_bounds-lens-j
 offset_bounds-lens-j c =
     let found : find_from (keyed c.args.id c.args.len) c.args.ahead (drop c.args.ahead (rules_of c.args.count c.args.rules.now)) ≡ Some c.in-Some.j =
-    sym c.next_rule.ensures ∙ c.in-Some.is
+    sym c.next_rule.ensures.value ∙ c.in-Some.is
     in
     let place : c.in-Some.j < c.args.count =
     let a = c.args in
@@ -25,7 +25,7 @@ offset_bounds-lens-j c =
 pub bounds-lens-j : goal.bounds-lens-j
 bounds-lens-j c =
     let found : find_from (keyed c.args.id c.args.len) c.args.ahead (drop c.args.ahead (rules_of c.args.count c.args.rules.now)) ≡ Some c.in-Some.j =
-    sym c.next_rule.ensures ∙ c.in-Some.is
+    sym c.next_rule.ensures.value ∙ c.in-Some.is
     in
     let place : c.in-Some.j < c.args.count =
     let a = c.args in
@@ -36,6 +36,6 @@ bounds-lens-j c =
 pub returns : goal.returns
 returns c =
     let found : find_from (keyed c.args.id c.args.len) c.args.ahead (drop c.args.ahead (rules_of c.args.count c.args.rules.now)) ≡ Some c.in-Some.j =
-    sym c.next_rule.ensures ∙ c.in-Some.is
+    sym c.next_rule.ensures.value ∙ c.in-Some.is
     in
     rw (found)
