@@ -28,8 +28,8 @@ use Rattle.sides.proofs.Rising.{of_rising}
 use Rattle.split.specs.Split.{move_ends, move_link, split_links}
 use Rattle.split.proofs.Ends.{both-written}
 use Rattle.merging.specs.Merging.{is_forward, add_link, add_links, read_as}
-use Rattle.merging.specs.Plan.{bury, right_in, suffix_by, later_links, later_links_all, fresh_after, long_by}
-use Rattle.linking.specs.Fit.{given_by, prefix_if, later_by, ends_named}
+use Rattle.merging.specs.Plan.{bury, right_in, suffix_by, later_links, later_links_all, fresh_after, long_by, prefix_if}
+use Rattle.linking.specs.Fit.{given_by, later_by, ends_named}
 
 pub one_more : (rs : List Link) (r : Link) → length (rs ++ (r ∷ [])) ≡ length rs + 1
 one_more rs r = length-append rs (r ∷ [])

@@ -10,7 +10,7 @@ use Rattle.store.specs.declared.Link.{Link}
 use Rattle.store.specs.Views.{largest}
 use Rattle.split.specs.Split.{split_links}
 use Rattle.merging.specs.Merging.{is_forward, add_links, read_as}
-use Rattle.merging.specs.Plan.{bury, right_in, long_by, suffix_by}
+use Rattle.merging.specs.Plan.{bury, right_in, long_by, prefix_if, suffix_by}
 
 -- how many links stand in the room, or that it is full
 abbrev pub fitted : ℕ → List Link → Option ℕ
@@ -25,9 +25,6 @@ pub record Makes (l : List ℕ) (rs : List Link) (r : Option ℕ) (m : List ℕ)
 abbrev pub given_by : Bool → Handle → ℕ → List Link → Handle → List Link
 given_by long x fresh links m =
     add_links x (cond long (suffix_by fresh m ∷ []) (map (read_as m x) (right_in links m))) (cond long (split_links (id_of m) fresh links) links)
-
-abbrev pub prefix_if : Bool → ℕ → Handle → Handle
-prefix_if long fresh m = cond long (cond (is_forward m) m (pack fresh 1)) m
 
 abbrev pub later_by : Bool → Handle → ℕ → List Link → Handle → List Link
 later_by long x fresh links m = map (bury (id_of (prefix_if long fresh m))) (given_by long x fresh links m)

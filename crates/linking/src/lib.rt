@@ -10,10 +10,11 @@ ghost use Rattle.store.specs.Graph.{link, handle, link_layout, nodes_of, links_o
 ghost use Rattle.sides.specs.Sides.{next_above};
 ghost use Rattle.split.specs.Split.{split_links};
 ghost use Rattle.merging.specs.Merging.{add_link, add_links, read_as};
-ghost use Rattle.merging.specs.Plan.{bury, right_in, long_by, suffix_by, later_links_all, planned};
-ghost use Rattle.linking.specs.Fit.{Makes, given_by, prefix_if, later_by, ends_named, Later, Plans};
+ghost use Rattle.merging.specs.Plan.{bury, right_in, long_by, later_links_all, planned};
+ghost use Rattle.linking.specs.Fit.{Makes, given_by, later_by, ends_named, Later, Plans};
 
 use handle::{Edge, Handle};
+use merging::parts;
 use store::Link;
 
 // Whether there is room for one link more.
@@ -131,30 +132,6 @@ fn split_off(links: &mut [u64], count: usize, id: u64, fresh: u64) -> Option<usi
     Some(count + 1)
 }
 
-// Which oriented node has a member's first letters, and which has the rest of a long one.
-fn prefix_of(long: bool, fresh: u64, m: Handle) -> Handle
-    requires { long ≡ true → fresh ≤ max_id }
-    ensures { result ≡ prefix_if long fresh m }
-{
-    if !long {
-        return m;
-    }
-    if m.direction() == Handle::FORWARD {
-        return m;
-    }
-    Handle::reverse(fresh)
-}
-
-fn suffix_of(fresh: u64, m: Handle) -> Handle
-    requires { fresh ≤ max_id }
-    ensures { result ≡ suffix_by fresh m }
-{
-    if m.direction() == Handle::FORWARD {
-        return Handle::forward(fresh);
-    }
-    m
-}
-
 // x is linked to a long member's suffix, or to an exact one's neighbours.
 fn give_links(
     links: &mut [u64],
@@ -173,7 +150,7 @@ fn give_links(
         return pass_on(links, count, m, x);
     }
     let n = split_off(links, count, m.id(), fresh)?;
-    add_link(links, n, x, suffix_of(fresh, m))
+    add_link(links, n, x, parts::suffix_of(fresh, m))
 }
 
 // A later member: x is linked, and no link on the member's prefix is live any more.
@@ -191,27 +168,17 @@ fn later_links(
     ensures { Makes links.old (later_by long x fresh (links_of count links.old) m) result links.new }
 {
     let n = give_links(links, count, m, x, fresh, long)?;
-    let prefix = prefix_of(long, fresh, m);
+    let prefix = parts::prefix_of(long, fresh, m);
     bury_links(links, n, prefix.id());
     Some(n)
 }
 
-// Whether a member has more letters than p, and the next fresh id after it.
+// Whether a member has more letters than p.
 fn is_long(nodes: &[u64], node_count: usize, m: Handle, p: u64) -> bool
     requires { 4 * node_count ≤ length nodes.now }
     ensures { result ≡ long_by p (nodes_of node_count nodes.now) m }
 {
     p < store::node_len(nodes, node_count, m.id())
-}
-
-fn fresh_after(fresh: u64, long: bool) -> u64
-    requires { long ≡ true → fresh ≤ max_id }
-    ensures { result ≡ cond long (fresh + 1) fresh }
-{
-    if long {
-        return fresh + 1;
-    }
-    fresh
 }
 
 // The members after the first.
@@ -236,7 +203,7 @@ fn later_all(
         let long = is_long(nodes, node_count, m, p);
         let more = later_links(links, n, m, x, next, long)?;
         n = more;
-        next = fresh_after(next, long);
+        next = parts::fresh_after(next, long);
     }
     Some(n)
 }
@@ -270,7 +237,7 @@ pub fn plan_links(
     let fresh = store::largest_id(nodes, node_count) + 1;
     let long = is_long(nodes, node_count, first, p);
     let n = alone_links(links, count, first, fresh, long)?;
-    let x = prefix_of(long, fresh, first);
-    let next = fresh_after(fresh, long);
+    let x = parts::prefix_of(long, fresh, first);
+    let next = parts::fresh_after(fresh, long);
     later_all(nodes, node_count, links, n, members, p, x, next)
 }

@@ -10,12 +10,13 @@ ghost use Rattle.store.specs.Views.{node_named, largest};
 ghost use Rattle.affix.specs.Prefix.{handles_of};
 ghost use Rattle.events.specs.Events.{rule, rule_layout, step_layout, keyed, rules_of, steps_of, list_of, append, append_all, step_to};
 ghost use Rattle.events.specs.WellFormed.{steps_later};
-ghost use Rattle.merging.specs.Plan.{long_by, fresh_after, suffix_by};
+ghost use Rattle.merging.specs.Plan.{long_by, fresh_after};
 ghost use Rattle.longer.specs.Ahead.{keys_new, steps_new, events_by};
-ghost use Rattle.longer.specs.Longer.{fresh_one, prefix_one, event_one, facing, beginning, events_from, front, Holds, RoomFor};
+ghost use Rattle.longer.specs.Longer.{fresh_one, event_one, facing, beginning, events_from, front, Holds, RoomFor};
 
 use events::{Rule, Step, Used};
 use handle::Handle;
+use merging::parts;
 
 // How many letters the member has.
 fn len_of(nodes: &[u64], count: usize, m: Handle) -> u64
@@ -23,17 +24,6 @@ fn len_of(nodes: &[u64], count: usize, m: Handle) -> u64
     ensures { result ≡ (node_named (id_of m) (nodes_of count nodes.now)).len }
 {
     store::node_len(nodes, count, m.id())
-}
-
-// One more after a long member.
-fn fresh_after(fresh: u64, len: u64, p: u64) -> u64
-    requires { fresh + 1 < 2 ^ 64 }
-    ensures { result ≡ fresh_one p len fresh }
-{
-    if p < len {
-        return fresh + 1;
-    }
-    fresh
 }
 
 // How many members have more letters than p: so many fresh ids a collapse takes.
@@ -45,7 +35,7 @@ pub fn count_long(nodes: &[u64], node_count: usize, members: &[u64], p: u64) -> 
     for i in 0..members.len() {
         let m = Handle { packed: members[i] };
         let len = len_of(nodes, node_count, m);
-        n = fresh_after(n, len, p);
+        n = parts::fresh_after(n, p < len);
     }
     n as usize
 }
@@ -99,31 +89,6 @@ pub struct Run {
     pub place: usize,
 }
 
-// The oriented node of a member's first p letters.
-fn prefix(m: Handle, len: u64, p: u64, fresh: u64) -> Handle
-    requires { fresh_one p len fresh ≤ max_id + 1 }
-    ensures { result ≡ prefix_one p len fresh m }
-{
-    if len <= p {
-        return m;
-    }
-    if m.direction() == Handle::FORWARD {
-        return m;
-    }
-    Handle::reverse(fresh)
-}
-
-// The oriented node of a long member's other letters.
-fn suffix(m: Handle, fresh: u64) -> Handle
-    requires { fresh ≤ max_id }
-    ensures { result ≡ suffix_by fresh m }
-{
-    if m.direction() == Handle::FORWARD {
-        return Handle::forward(fresh);
-    }
-    m
-}
-
 pub fn begin(nodes: &[u64], count: usize, first: Handle, p: u64) -> Run
     requires count_in_bounds { 4 * count ≤ length nodes.now }
     requires first_bound { fresh_after p (nodes_of count nodes.now) (largest (nodes_of count nodes.now) + 1) first ≤ max_id + 1 }
@@ -131,7 +96,7 @@ pub fn begin(nodes: &[u64], count: usize, first: Handle, p: u64) -> Run
 {
     let len = len_of(nodes, count, first);
     let fresh = store::largest_id(nodes, count) + 1;
-    let x = prefix(first, len, p, fresh);
+    let x = parts::prefix_of(p < len, fresh, first);
     let place = first_place(len, p);
     Run { x, fresh, place }
 }
@@ -155,7 +120,7 @@ fn event_new(
     if len <= p {
         return true;
     }
-    let rest = suffix(m, fresh);
+    let rest = parts::suffix_of(fresh, m);
     no_rule(rules, count, rest.id(), len - p)
 }
 
@@ -180,7 +145,7 @@ fn run_new(
         if !event_new(rules, rule_count, m, len, p, x, fresh) {
             return false;
         }
-        fresh = fresh_after(fresh, len, p);
+        fresh = parts::fresh_after(fresh, p < len);
     }
     true
 }
@@ -264,7 +229,7 @@ fn push_walk(
         push_step(steps, count, shared, p);
         return 1;
     }
-    let other = facing(m, suffix(m, fresh));
+    let other = facing(m, parts::suffix_of(fresh, m));
     if m.direction() == Handle::FORWARD {
         push_two(steps, count, shared, p, other, len - p);
         return 2;
@@ -320,7 +285,7 @@ fn append_run(
         let m = Handle { packed: members[i] };
         let len = len_of(nodes, node_count, m);
         used = append_event(rules, steps, used, m, len, p, x, fresh);
-        fresh = fresh_after(fresh, len, p);
+        fresh = parts::fresh_after(fresh, p < len);
     }
     used
 }

@@ -34,6 +34,9 @@ fresh_after p nodes fresh m = cond (long_by p nodes m) (fresh + 1) fresh
 abbrev pub prefix_by : ℕ → List Node → ℕ → Handle → Handle
 prefix_by p nodes fresh m = cond (long_by p nodes m) (cond (is_forward m) m (pack fresh 1)) m
 
+abbrev pub prefix_if : Bool → ℕ → Handle → Handle
+prefix_if long fresh m = cond long (cond (is_forward m) m (pack fresh 1)) m
+
 abbrev pub suffix_by : ℕ → Handle → Handle
 suffix_by fresh m = cond (is_forward m) (pack fresh 0) m
 

@@ -3,3 +3,4 @@
 
 pub mod copies;
 pub mod nodes;
+pub mod parts;

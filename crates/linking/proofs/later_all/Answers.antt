@@ -69,11 +69,11 @@ returns-in_err-more c =
     rw c.from_residual.ensures (then_full k.inv.holds c.later_links.ensures c.in_err-more.was (grown k))
 
 pub fresh_after-next-requires : goal.fresh_after-next-requires
-fresh_after-next-requires c =
+fresh_after-next-requires c t =
     let met : Met c.args.p (nodes_of c.args.node_count c.args.nodes.now) c.args.x c.args.fresh c.args.links.now c.args.count (map handle c.args.members.now) c.loop-i.links c.loop-i.n c.loop-i.next c.loop-i.i (handle (get_or c.args.members.now c.loop-i.i 0)) c.is_long-long.result =
     record { inv = c.loop-i.invariant; front = left_member c.args.members.now c.loop-i.i (omega arith); long_is = c.is_long-long.ensures }
     in
-    free (met)
+    omega (arith, free (met) t)
 
 pub loop-i-preserved : goal.loop-i-preserved
 loop-i-preserved c =

@@ -7,8 +7,8 @@ use Rattle.kit.specs.Layout.{encode}
 use Rattle.handle.specs.Handle.{id_of}
 use Rattle.store.specs.Graph.{link_layout, links_of}
 use Rattle.store.specs.declared.Link.{Link}
-use Rattle.merging.specs.Plan.{bury}
-use Rattle.linking.specs.Fit.{given_by, prefix_if}
+use Rattle.merging.specs.Plan.{bury, prefix_if}
+use Rattle.linking.specs.Fit.{given_by}
 use Rattle.linking.proofs.Growth.{bury-same}
 use Rattle.linking.proofs.Fitting.{Holds, holds_links, holds_size, holds_rest, starts, made, made-count, then_full}
 use Rattle.linking.proofs.later_links.Goals as goal

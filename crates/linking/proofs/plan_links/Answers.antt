@@ -12,8 +12,8 @@ use Rattle.store.specs.declared.Link.{Link}
 use Rattle.store.specs.Views.{largest}
 use Rattle.split.specs.Split.{split_links}
 use Rattle.std.specs.Prelude.{Option}
-use Rattle.merging.specs.Plan.{long_by, later_links_all, planned}
-use Rattle.linking.specs.Fit.{Makes, Later, Plans, prefix_if}
+use Rattle.merging.specs.Plan.{long_by, later_links_all, planned, prefix_if}
+use Rattle.linking.specs.Fit.{Makes, Later, Plans}
 use Rattle.linking.proofs.Growth.{later_all-more}
 use Rattle.linking.proofs.Fitting.{Holds, holds_links, holds_size, starts, made-count, then_makes, then_full}
 use Rattle.merging.proofs.NodeTurns.{left_member}
@@ -99,7 +99,7 @@ prefix_of-x-requires c =
     free (known)
 
 pub fresh_after-next-requires : goal.fresh_after-next-requires
-fresh_after-next-requires c =
+fresh_after-next-requires c t =
     let known : Known c.args.p (nodes_of c.args.node_count c.args.nodes.now) (links_of c.args.count c.args.links.now) c.args.members.now (c.largest_id-fresh.result + 1) c.is_long-long.result =
     record {
       plans = c.requires.plans;
@@ -107,7 +107,7 @@ fresh_after-next-requires c =
       long_is = c.is_long-long.ensures;
     }
     in
-    free (known)
+    omega (arith, free (known) t)
 
 pub later_all-requires : goal.later_all-requires
 later_all-requires c =

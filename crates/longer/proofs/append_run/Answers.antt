@@ -14,7 +14,7 @@ append_event-used-requires c =
     let i = c.loop-i.i in record { room_for = going-room c.requires.room_for (going_as (run-turn a.p N a.members.now i _ (omega arith) c.len_of-len.ensures a.r.x c.loop-i.fresh) c.loop-i.invariant.1); fresh_bound = omega (arith, c.loop-i.invariant.0, count_turn a.p N a.members.now i _ (omega arith) c.len_of-len.ensures c.loop-i.fresh) }
 
 pub fresh_after-fresh-requires : goal.fresh_after-fresh-requires
-fresh_after-fresh-requires c = omega (arith, c.loop-i.invariant.0)
+fresh_after-fresh-requires c t = omega (arith, c.loop-i.invariant.0)
 
 pub loop-i-preserved : goal.loop-i-preserved
 loop-i-preserved c =

@@ -49,8 +49,8 @@ returns-then-len-p c =
     let R = rules_of a.count a.rules.now in
     sym (exact R a.p a.len a.x a.fresh a.m (told R a.x _ a.p c.no_rule.ensures c.id.ensures ∙ not-false _ c.if-not-no_rule.false-raw) (le-ltb a.p a.len c.if-len-p.true))
 
-pub suffix-rest-requires : goal.suffix-rest-requires
-suffix-rest-requires c =
+pub suffix_of-rest-requires : goal.suffix_of-rest-requires
+suffix_of-rest-requires c =
     let l : ltb c.args.p c.args.len ≡ true = lt-ltb c.args.p c.args.len (omega arith) in
     let h = rw l at c.requires.1 in
     omega arith
@@ -60,5 +60,5 @@ returns c =
     let a = c.args in
     let R = rules_of a.count a.rules.now in
     c.no_rule-2.ensures
-    ∙ ap (λ (k : ℕ). new R k (a.len - a.p)) (c.id-2.ensures ∙ ap id_of c.suffix-rest.ensures)
+    ∙ ap (λ (k : ℕ). new R k (a.len - a.p)) (c.id-2.ensures ∙ ap id_of c.suffix_of-rest.ensures)
     ∙ sym (long R a.p a.len a.x a.fresh a.m (told R a.x _ a.p c.no_rule.ensures c.id.ensures ∙ not-false _ c.if-not-no_rule.false-raw) (lt-ltb a.p a.len (omega arith)))

@@ -28,8 +28,8 @@ returns-then-len-p c =
     let a = c.args in
     let both = done a.count a.steps.now _ (exact_walk a.p a.len a.x a.fresh a.m (le-ltb a.p a.len c.if-len-p.true) ∙ ap (λ (h : Handle). step_to h a.p ∷ []) (sym c.facing-shared.ensures)) c.push_step.ensures in record { value = both.0; steps_after = both.1 }
 
-pub suffix-requires : goal.suffix-requires
-suffix-requires c =
+pub suffix_of-requires : goal.suffix_of-requires
+suffix_of-requires c =
     let l : ltb c.args.p c.args.len ≡ true = lt-ltb c.args.p c.args.len (omega arith) in
     let h = rw l at c.requires.fresh_bound in
     omega arith
@@ -42,7 +42,7 @@ push_two-requires c =
 pub returns-then-direction-eq-FORWARD : goal.returns-then-direction-eq-FORWARD
 returns-then-direction-eq-FORWARD c =
     let a = c.args in
-    let other = c.facing-other.ensures ∙ ap (facing a.m) c.suffix.ensures in
+    let other = c.facing-other.ensures ∙ ap (facing a.m) c.suffix_of.ensures in
     let both = done a.count a.steps.now _ (forward_walk a.p a.len a.x a.fresh a.m (lt-ltb a.p a.len (omega arith)) (eq-eqb (dir_of a.m) 0 (sym c.direction.ensures ∙ c.if-direction-eq-FORWARD.true)) ∙ ap₂ (λ (g h : Handle). step_to g a.p ∷ step_to h (a.len - a.p) ∷ []) (sym c.facing-shared.ensures) (sym other)) c.push_two.ensures in record { value = both.0; steps_after = both.1 }
 
 pub push_two-requires-2 : goal.push_two-requires-2
@@ -53,5 +53,5 @@ push_two-requires-2 c =
 pub returns : goal.returns
 returns c =
     let a = c.args in
-    let other = c.facing-other.ensures ∙ ap (facing a.m) c.suffix.ensures in
+    let other = c.facing-other.ensures ∙ ap (facing a.m) c.suffix_of.ensures in
     let both = done a.count a.steps.now _ (reverse_walk a.p a.len a.x a.fresh a.m (lt-ltb a.p a.len (omega arith)) (ne_eqb (dir_of a.m) 0 (λ e. c.if-direction-eq-FORWARD.false (c.direction.ensures ∙ e))) ∙ ap₂ (λ (g h : Handle). step_to h (a.len - a.p) ∷ step_to g a.p ∷ []) (sym c.facing-shared.ensures) (sym other)) c.push_two-2.ensures in record { value = both.0; steps_after = both.1 }

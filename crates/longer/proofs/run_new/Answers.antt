@@ -35,7 +35,7 @@ returns-then-not-event_new c =
     sym (all_fail (clear R) (run-turn a.p N a.members.now c.loop-i.i _ (omega arith) c.len_of-len.ensures a.r.x c.loop-i.fresh) (sym c.event_new.ensures ∙ not-true _ c.if-not-event_new.true-raw)) ∙ c.loop-i.invariant.1
 
 pub fresh_after-fresh-requires : goal.fresh_after-fresh-requires
-fresh_after-fresh-requires c = omega (arith, c.loop-i.invariant.0)
+fresh_after-fresh-requires c t = omega (arith, c.loop-i.invariant.0)
 
 pub loop-i-preserved : goal.loop-i-preserved
 loop-i-preserved c =

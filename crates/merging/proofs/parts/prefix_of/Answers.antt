@@ -1,6 +1,6 @@
 use mathlib.Core.Path.{sym, ◌∙◌}
 use borrow.Author.Tests.{eq-eqb, ne_eqb, not-true, not-false}
-use Rattle.linking.proofs.prefix_of.Goals as goal
+use Rattle.merging.proofs.parts.prefix_of.Goals as goal
 
 pub returns-then-not-long : goal.returns-then-not-long
 returns-then-not-long c = rw (not-true c.args.long c.if-not-long.true-raw)

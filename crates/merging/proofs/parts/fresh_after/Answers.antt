@@ -1,5 +1,5 @@
 use native.Mathlib.Omega.{arith}
-use Rattle.linking.proofs.fresh_after.Goals as goal
+use Rattle.merging.proofs.parts.fresh_after.Goals as goal
 
 pub overflow_add-result : goal.overflow_add-result
 overflow_add-result c = omega (arith, c.requires c.if-long.true)
