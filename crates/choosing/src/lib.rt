@@ -1,12 +1,12 @@
 // Which group the driver takes next. Who calls these has tested that the store is well formed.
 #![tactic(auto)]
 
-ghost use Rattle.std.specs.Prelude.{◌*◌, ◌≤◌, ◌≡◌, true, [], ◌∷◌, length};
+ghost use Rattle.std.specs.Prelude.{IfSome, ◌*◌, ◌≤◌, ◌<◌, ◌≡◌, true, [], ◌∷◌, length};
 ghost use Rattle.kit.specs.Loops.{all, any};
 ghost use Rattle.handle.specs.Handle.{max_id, is_id, pack};
 ghost use Rattle.store.specs.Graph.{nodes_of, graph_of};
 ghost use Rattle.formed.specs.WellFormed.{well_formed};
-ghost use Rattle.sides.specs.Sides.{next_above};
+ghost use Rattle.sides.specs.Sides.{next_above, packed_of};
 ghost use Rattle.sides.specs.Search.{lowest};
 ghost use Rattle.affix.specs.Prefix.{handles_of};
 ghost use Rattle.affix.specs.Reading.{Readable};
@@ -26,12 +26,13 @@ fn lower_of_both(id: u64, above: u64, best: u64) -> u64
     sides::lower(above, there.packed, sides::lower(above, back.packed, best))
 }
 
-// "Live nodes by rising id, forward then reverse" is the order of packed numbers: the next one above a number; 0 where there is none.
+// "Live nodes by rising id, forward then reverse" is the order of packed numbers: the next one above a number.
 // From the last node to the first, as `lowest` goes.
-fn next_scan(nodes: &[u64], count: usize, above: u64) -> u64
+fn next_scan(nodes: &[u64], count: usize, above: u64) -> Option<Handle>
     requires count_in_bounds { 4 * count ≤ length nodes.now }
     requires nodes_value { all (λ r. is_id r.id) (nodes_of count nodes.now) ≡ true }
-    ensures { result ≡ next_above above (scan_order (nodes_of count nodes.now)) }
+    ensures value { packed_of result ≡ next_above above (scan_order (nodes_of count nodes.now)) }
+    ensures some { IfSome result (λ h. 0 < h.packed) }
 {
     let mut best: u64 = 0;
     for i in (0..count).rev() {
@@ -40,7 +41,7 @@ fn next_scan(nodes: &[u64], count: usize, above: u64) -> u64
             best = lower_of_both(r.id, above, best);
         }
     }
-    best
+    sides::handle_of(best)
 }
 
 fn has_protected(protected: &[u64], members: &[u64]) -> bool
@@ -109,18 +110,14 @@ fn group_of(
     ensures { Front (first_group (graph_of nodes.now text.now links.now c) protected.now v) members.new result }
 {
     let mut above: u64 = 0;
-    loop {
-        let u = groups::next_head(nodes, text, links, c, v, above);
-        if u == 0 {
-            return 0;
-        }
-        let head = Handle { packed: u };
-        let n = try_group(nodes, text, links, c, v, head, protected, members);
+    while let Some(u) = groups::next_head(nodes, text, links, c, v, above) {
+        let n = try_group(nodes, text, links, c, v, u, protected, members);
         if n != 0 {
             return n;
         }
-        above = u;
+        above = u.packed;
     }
+    0
 }
 
 // The group that the driver takes next, at the front of `members`, and its size; 0 where none is left.
@@ -136,16 +133,12 @@ pub fn next_group(
     ensures { Front (next_group (graph_of nodes.now text.now links.now c) protected.now) members.new result }
 {
     let mut above: u64 = 0;
-    loop {
-        let v = next_scan(nodes, c.nodes, above);
-        if v == 0 {
-            return 0;
-        }
-        let scanned = Handle { packed: v };
-        let n = group_of(nodes, text, links, c, scanned, protected, members);
+    while let Some(v) = next_scan(nodes, c.nodes, above) {
+        let n = group_of(nodes, text, links, c, v, protected, members);
         if n != 0 {
             return n;
         }
-        above = v;
+        above = v.packed;
     }
+    0
 }

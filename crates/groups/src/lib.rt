@@ -2,13 +2,13 @@
 // Who calls these has tested that the store is well formed.
 #![tactic(auto)]
 
-ghost use Rattle.std.specs.Prelude.{◌+◌, ◌-◌, ◌*◌, ◌≤◌, ◌≡◌, true, cond, [], eqb, length, take};
+ghost use Rattle.std.specs.Prelude.{IfSome, ◌+◌, ◌-◌, ◌*◌, ◌≤◌, ◌<◌, ◌≡◌, true, cond, [], eqb, length, take};
 ghost use Rattle.kit.specs.Loops.{all, keep};
 ghost use Rattle.kit.specs.Put.{Put};
 ghost use Rattle.store.specs.Graph.{nodes_of, graph_of};
 ghost use Rattle.store.specs.Views.{letter_of};
 ghost use Rattle.formed.specs.WellFormed.{good_node, well_formed};
-ghost use Rattle.sides.specs.Sides.{right_of, next_above};
+ghost use Rattle.sides.specs.Sides.{right_of, next_above, packed_of};
 ghost use Rattle.groups.specs.Groups.{same_key, is_reverse, arranged, groups_of, members_of, ends_from, numbers, over};
 ghost use Rattle.groups.specs.Search.{of_key, heads_of, first_met};
 
@@ -41,7 +41,7 @@ pub fn same_key(nodes: &[u64], text: &[u8], links: &[u64], c: Counts, u: Handle,
     sides::same_left(nodes, links, c, u, w)
 }
 
-// The next live right neighbour of v above a packed number that has u's key; 0 where there is none.
+// The next live right neighbour of v above a packed number that has u's key.
 pub fn next_of_key(
     nodes: &[u64],
     text: &[u8],
@@ -50,21 +50,19 @@ pub fn next_of_key(
     v: Handle,
     u: Handle,
     above: u64,
-) -> u64
+) -> Option<Handle>
     requires { well_formed nodes.now text.now links.now c ≡ true }
-    ensures { result ≡ next_above above (of_key (graph_of nodes.now text.now links.now c) v u) }
+    ensures value { packed_of result ≡ next_above above (of_key (graph_of nodes.now text.now links.now c) v u) }
+    ensures some { IfSome result (λ h. 0 < h.packed) }
 {
     let mut at = above;
-    loop {
-        let w = sides::next_right(nodes, links, c, v, at);
-        if w == 0 {
-            return 0;
+    while let Some(w) = sides::next_right(nodes, links, c, v, at) {
+        if same_key(nodes, text, links, c, u, w) {
+            return Some(w);
         }
-        if same_key(nodes, text, links, c, u, Handle { packed: w }) {
-            return w;
-        }
-        at = w;
+        at = w.packed;
     }
+    None
 }
 
 // Whether u, a neighbour of v, is the first met of its key.
@@ -72,25 +70,33 @@ fn is_head(nodes: &[u64], text: &[u8], links: &[u64], c: Counts, v: Handle, u: H
     requires { well_formed nodes.now text.now links.now c ≡ true }
     ensures { result ≡ first_met (graph_of nodes.now text.now links.now c) (right_of (graph_of nodes.now text.now links.now c) v) u }
 {
-    next_of_key(nodes, text, links, c, v, u, 0) == u.packed
+    let Some(first) = next_of_key(nodes, text, links, c, v, u, 0) else {
+        return u.packed == 0;
+    };
+    first == u
 }
 
-// The next of them above a packed number; 0 where there is none.
-pub fn next_head(nodes: &[u64], text: &[u8], links: &[u64], c: Counts, v: Handle, above: u64) -> u64
+// The next of them above a packed number.
+pub fn next_head(
+    nodes: &[u64],
+    text: &[u8],
+    links: &[u64],
+    c: Counts,
+    v: Handle,
+    above: u64,
+) -> Option<Handle>
     requires { well_formed nodes.now text.now links.now c ≡ true }
-    ensures { result ≡ next_above above (heads_of (graph_of nodes.now text.now links.now c) v) }
+    ensures value { packed_of result ≡ next_above above (heads_of (graph_of nodes.now text.now links.now c) v) }
+    ensures some { IfSome result (λ h. 0 < h.packed) }
 {
     let mut at = above;
-    loop {
-        let u = sides::next_right(nodes, links, c, v, at);
-        if u == 0 {
-            return 0;
+    while let Some(u) = sides::next_right(nodes, links, c, v, at) {
+        if is_head(nodes, text, links, c, v, u) {
+            return Some(u);
         }
-        if is_head(nodes, text, links, c, v, Handle { packed: u }) {
-            return u;
-        }
-        at = u;
+        at = u.packed;
     }
+    None
 }
 
 // How many groups v has: one for each head.
@@ -100,14 +106,11 @@ pub fn count_groups(nodes: &[u64], text: &[u8], links: &[u64], c: Counts, v: Han
 {
     let mut n: usize = 0;
     let mut above: u64 = 0;
-    loop {
-        let u = next_head(nodes, text, links, c, v, above);
-        if u == 0 {
-            return n;
-        }
+    while let Some(u) = next_head(nodes, text, links, c, v, above) {
         n += 1;
-        above = u;
+        above = u.packed;
     }
+    n
 }
 
 // How many members u's group has.
@@ -124,14 +127,11 @@ pub fn count_of_key(
 {
     let mut n: usize = 0;
     let mut above: u64 = 0;
-    loop {
-        let w = next_of_key(nodes, text, links, c, v, u, above);
-        if w == 0 {
-            return n;
-        }
+    while let Some(w) = next_of_key(nodes, text, links, c, v, u, above) {
         n += 1;
-        above = w;
+        above = w.packed;
     }
+    n
 }
 
 // How many members of u's group are reversed.
@@ -148,15 +148,11 @@ fn count_reversed(
 {
     let mut n: usize = 0;
     let mut above: u64 = 0;
-    loop {
-        let w = next_of_key(nodes, text, links, c, v, u, above);
-        if w == 0 {
-            return n;
-        }
-        let member = Handle { packed: w };
-        n += member.direction() as usize;
-        above = w;
+    while let Some(w) = next_of_key(nodes, text, links, c, v, u, above) {
+        n += w.direction() as usize;
+        above = w.packed;
     }
+    n
 }
 
 // The place of the member that comes next, where the places from `low` to `high` are taken: a reversed one goes below them.
@@ -188,19 +184,15 @@ pub fn write_group(
     let mut low = base + count_reversed(nodes, text, links, c, v, u);
     let mut high = low;
     let mut above: u64 = 0;
-    loop {
-        let w = next_of_key(nodes, text, links, c, v, u, above);
-        if w == 0 {
-            return high;
-        }
-        let member = Handle { packed: w };
-        let direction = member.direction();
+    while let Some(w) = next_of_key(nodes, text, links, c, v, u, above) {
+        let direction = w.direction();
         let at = place(direction, low, high);
-        members[at] = w;
+        members[at] = w.packed;
         low -= direction as usize;
         high += 1 - direction as usize;
-        above = w;
+        above = w.packed;
     }
+    high
 }
 
 // Writes the groups one after another, and where each of them ends. Who calls this has counted both.
@@ -221,15 +213,10 @@ pub fn write_groups(
     let mut n: usize = 0;
     let mut at: usize = 0;
     let mut above: u64 = 0;
-    loop {
-        let u = next_head(nodes, text, links, c, v, above);
-        if u == 0 {
-            return;
-        }
-        let head = Handle { packed: u };
-        at = write_group(nodes, text, links, c, v, head, at, members);
+    while let Some(u) = next_head(nodes, text, links, c, v, above) {
+        at = write_group(nodes, text, links, c, v, u, at, members);
         ends[n] = at as u64;
         n += 1;
-        above = u;
+        above = u.packed;
     }
 }

@@ -1,6 +1,6 @@
 -- Live neighbours: 01 "Prefix, groups, collapse", groups of v. They come by rising id, forward before reverse, which is
 -- the order of packed numbers, each once.
-use Rattle.std.specs.Prelude.{ℕ, Bool, cond, ◌&&◌, List, [], ◌∷◌, ◌++◌, ltb, get_or}
+use Rattle.std.specs.Prelude.{ℕ, Bool, cond, ◌&&◌, List, [], ◌∷◌, ◌++◌, Option, Some, None, ltb, get_or}
 use Rattle.kit.specs.Loops.{first_or, all, keep, lines}
 use Rattle.handle.specs.declared.Handle.{Handle}
 use Rattle.handle.specs.Handle.{flip, same_handle, before}
@@ -44,6 +44,11 @@ same_left g u v = left_in g u v && left_in g v u
 -- and of the k-th, counted from 0; 0 where there is none
 abbrev pub next_above : ℕ → List Handle → ℕ
 next_above above hs = (first_or (handle 0) (λ h. ltb above h.packed) hs).packed
+
+-- the number of the one that was found; 0 is none
+abbrev pub packed_of : Option Handle → ℕ
+packed_of None = 0
+packed_of (Some h) = h.packed
 
 abbrev pub nth_of : ℕ → List Handle → ℕ
 nth_of k hs = (get_or hs k (handle 0)).packed

@@ -1,12 +1,12 @@
 // Live neighbours of an oriented node, on its right and on its left.
 #![tactic(auto)]
 
-ghost use Rattle.std.specs.Prelude.{◌*◌, ◌≤◌, ◌≡◌, false, cond, [], ◌∷◌, length};
+ghost use Rattle.std.specs.Prelude.{IfSome, ◌*◌, ◌≤◌, ◌<◌, ◌≡◌, false, cond, [], ◌∷◌, length};
 ghost use Rattle.kit.specs.Loops.{all};
 ghost use Rattle.handle.specs.Edge.{edge};
 ghost use Rattle.store.specs.Graph.{nodes_of};
 ghost use Rattle.store.specs.Views.{live_node, live_linked};
-ghost use Rattle.sides.specs.Sides.{right_ends, right_of, left_ends, left_of, left_in, same_left, next_above, nth_of, bare};
+ghost use Rattle.sides.specs.Sides.{right_ends, right_of, left_ends, left_of, left_in, same_left, next_above, packed_of, nth_of, bare};
 ghost use Rattle.sides.specs.Search.{lower, lowest, side_ends, side_of};
 
 use handle::Handle;
@@ -25,7 +25,18 @@ pub fn lower(above: u64, n: u64, best: u64) -> u64
     best
 }
 
-// The same with u, where it is given.
+// The one that such a search ends with, if any.
+pub fn handle_of(best: u64) -> Option<Handle>
+    ensures value { packed_of result ≡ best }
+    ensures some { IfSome result (λ h. 0 < h.packed) }
+{
+    if best == 0 {
+        return None;
+    }
+    Some(Handle { packed: best })
+}
+
+// The same as `lower` with u, where it is given.
 fn offer(given: bool, u: Handle, above: u64, best: u64) -> u64
     ensures { result ≡ lowest above best (cond given (u ∷ []) []) }
 {
@@ -60,9 +71,17 @@ fn lead_side(left: bool, v: Handle, l: Link, above: u64, best: u64) -> u64
 }
 
 // From the last link to the first, as `lowest` goes. Only a link that leads to a lower neighbour is asked whether it is live.
-fn next_side(nodes: &[u64], links: &[u64], c: Counts, left: bool, v: Handle, above: u64) -> u64
+fn next_side(
+    nodes: &[u64],
+    links: &[u64],
+    c: Counts,
+    left: bool,
+    v: Handle,
+    above: u64,
+) -> Option<Handle>
     requires { (4 * c.nodes ≤ length nodes.now) × (3 * c.links ≤ length links.now) }
-    ensures { result ≡ next_above above (side_of left (bare nodes.now links.now c) v) }
+    ensures value { packed_of result ≡ next_above above (side_of left (bare nodes.now links.now c) v) }
+    ensures some { IfSome result (λ h. 0 < h.packed) }
 {
     let mut best: u64 = 0;
     for i in (0..c.links).rev() {
@@ -72,25 +91,27 @@ fn next_side(nodes: &[u64], links: &[u64], c: Counts, left: bool, v: Handle, abo
             best = found;
         }
     }
-    best
+    handle_of(best)
 }
 
-// The next live right neighbour above a packed number, and the next left one; 0 where there is none.
-pub fn next_right(nodes: &[u64], links: &[u64], c: Counts, v: Handle, above: u64) -> u64
+// The next live right neighbour above a packed number, and the next left one.
+pub fn next_right(nodes: &[u64], links: &[u64], c: Counts, v: Handle, above: u64) -> Option<Handle>
     requires { (4 * c.nodes ≤ length nodes.now) × (3 * c.links ≤ length links.now) }
-    ensures { result ≡ next_above above (right_of (bare nodes.now links.now c) v) }
+    ensures value { packed_of result ≡ next_above above (right_of (bare nodes.now links.now c) v) }
+    ensures some { IfSome result (λ h. 0 < h.packed) }
 {
     next_side(nodes, links, c, false, v, above)
 }
 
-pub fn next_left(nodes: &[u64], links: &[u64], c: Counts, v: Handle, above: u64) -> u64
+pub fn next_left(nodes: &[u64], links: &[u64], c: Counts, v: Handle, above: u64) -> Option<Handle>
     requires { (4 * c.nodes ≤ length nodes.now) × (3 * c.links ≤ length links.now) }
-    ensures { result ≡ next_above above (left_of (bare nodes.now links.now c) v) }
+    ensures value { packed_of result ≡ next_above above (left_of (bare nodes.now links.now c) v) }
+    ensures some { IfSome result (λ h. 0 < h.packed) }
 {
     next_side(nodes, links, c, true, v, above)
 }
 
-// How many neighbours there are, from one to the next. None is 0, the answer that ends the loop: no live node has id 0.
+// How many neighbours there are, from one to the next. All stand above 0: no live node has id 0.
 fn count_side(nodes: &[u64], links: &[u64], c: Counts, left: bool, v: Handle) -> usize
     requires nodes_in_bounds { (4 * c.nodes ≤ length nodes.now) × (3 * c.links ≤ length links.now) }
     requires nodes_value { live_node 0 (nodes_of c.nodes nodes.now) ≡ false }
@@ -98,14 +119,11 @@ fn count_side(nodes: &[u64], links: &[u64], c: Counts, left: bool, v: Handle) ->
 {
     let mut n: usize = 0;
     let mut above: u64 = 0;
-    loop {
-        let u = next_side(nodes, links, c, left, v, above);
-        if u == 0 {
-            return n;
-        }
+    while let Some(u) = next_side(nodes, links, c, left, v, above) {
         n += 1;
-        above = u;
+        above = u.packed;
     }
+    n
 }
 
 fn nth_side(nodes: &[u64], links: &[u64], c: Counts, left: bool, v: Handle, k: usize) -> u64
@@ -115,14 +133,14 @@ fn nth_side(nodes: &[u64], links: &[u64], c: Counts, left: bool, v: Handle, k: u
 {
     let mut n: usize = 0;
     let mut above: u64 = 0;
-    loop {
-        let u = next_side(nodes, links, c, left, v, above);
-        if u == 0 || n == k {
-            return u;
+    while let Some(u) = next_side(nodes, links, c, left, v, above) {
+        if n == k {
+            return u.packed;
         }
         n += 1;
-        above = u;
+        above = u.packed;
     }
+    0
 }
 
 // How many live neighbours v has on a side.

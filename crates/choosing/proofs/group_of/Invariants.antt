@@ -17,8 +17,8 @@ use Rattle.choosing.proofs.group_of.Given as goal
 abbrev pub left : Graph → Handle → ℕ → List (List Handle)
 left g v above = map (group_of g (right_of g v)) (rest_above above (heads_of g v))
 
-abbrev pub invariant-loop-c : goal.invariant-loop-c
-invariant-loop-c l = (length l.members ≡ length l.initial.members) × (first_or [] (must_collapse (graph_of l.nodes l.text l.links l.c) l.protected) (left (graph_of l.nodes l.text l.links l.c) l.v l.above) ≡ first_group (graph_of l.nodes l.text l.links l.c) l.protected l.v)
+abbrev pub invariant-loop-u : goal.invariant-loop-u
+invariant-loop-u l = (length l.members ≡ length l.initial.members) × (first_or [] (must_collapse (graph_of l.nodes l.text l.links l.c) l.protected) (left (graph_of l.nodes l.text l.links l.c) l.v l.above) ≡ first_group (graph_of l.nodes l.text l.links l.c) l.protected l.v)
 
-abbrev pub decreases-loop-c : goal.decreases-loop-c
-decreases-loop-c l = length (rest_above l.above (heads_of (graph_of l.nodes l.text l.links l.c) l.v))
+abbrev pub decreases-loop-u : goal.decreases-loop-u
+decreases-loop-u l = length (rest_above l.above (heads_of (graph_of l.nodes l.text l.links l.c) l.v))

@@ -8,8 +8,8 @@ use Rattle.groups.specs.Groups.{is_reverse}
 use Rattle.groups.specs.Search.{of_key}
 use Rattle.groups.proofs.count_reversed.Given as goal
 
-abbrev pub invariant-loop-c : goal.invariant-loop-c
-invariant-loop-c l = (l.n ≤ l.above) × (l.n + length (keep is_reverse (rest_above l.above (of_key (graph_of l.nodes l.text l.links l.c) l.v l.u))) ≡ length (keep is_reverse (of_key (graph_of l.nodes l.text l.links l.c) l.v l.u)))
+abbrev pub invariant-loop-w : goal.invariant-loop-w
+invariant-loop-w l = (l.n ≤ l.above) × (l.n + length (keep is_reverse (rest_above l.above (of_key (graph_of l.nodes l.text l.links l.c) l.v l.u))) ≡ length (keep is_reverse (of_key (graph_of l.nodes l.text l.links l.c) l.v l.u)))
 
-abbrev pub decreases-loop-c : goal.decreases-loop-c
-decreases-loop-c l = length (rest_above l.above (of_key (graph_of l.nodes l.text l.links l.c) l.v l.u))
+abbrev pub decreases-loop-w : goal.decreases-loop-w
+decreases-loop-w l = length (rest_above l.above (of_key (graph_of l.nodes l.text l.links l.c) l.v l.u))

@@ -7,8 +7,8 @@ use Rattle.groups.specs.Search.{first_met}
 use Rattle.groups.proofs.Along.{first_left}
 use Rattle.groups.proofs.next_head.Given as goal
 
-abbrev pub invariant-loop-c : goal.invariant-loop-c
-invariant-loop-c l = first_left (first_met (graph_of l.nodes l.text l.links l.c) (right_of (graph_of l.nodes l.text l.links l.c) l.v)) (right_of (graph_of l.nodes l.text l.links l.c) l.v) l.at ≡ first_left (first_met (graph_of l.nodes l.text l.links l.c) (right_of (graph_of l.nodes l.text l.links l.c) l.v)) (right_of (graph_of l.nodes l.text l.links l.c) l.v) l.above
+abbrev pub invariant-loop-u : goal.invariant-loop-u
+invariant-loop-u l = first_left (first_met (graph_of l.nodes l.text l.links l.c) (right_of (graph_of l.nodes l.text l.links l.c) l.v)) (right_of (graph_of l.nodes l.text l.links l.c) l.v) l.at ≡ first_left (first_met (graph_of l.nodes l.text l.links l.c) (right_of (graph_of l.nodes l.text l.links l.c) l.v)) (right_of (graph_of l.nodes l.text l.links l.c) l.v) l.above
 
-abbrev pub decreases-loop-c : goal.decreases-loop-c
-decreases-loop-c l = length (rest_above l.at (right_of (graph_of l.nodes l.text l.links l.c) l.v))
+abbrev pub decreases-loop-u : goal.decreases-loop-u
+decreases-loop-u l = length (rest_above l.at (right_of (graph_of l.nodes l.text l.links l.c) l.v))

@@ -7,8 +7,8 @@ use Rattle.groups.specs.Groups.{same_key}
 use Rattle.groups.proofs.Along.{first_left}
 use Rattle.groups.proofs.next_of_key.Given as goal
 
-abbrev pub invariant-loop-c : goal.invariant-loop-c
-invariant-loop-c l = first_left (same_key (graph_of l.nodes l.text l.links l.c) l.u) (right_of (graph_of l.nodes l.text l.links l.c) l.v) l.at ≡ first_left (same_key (graph_of l.nodes l.text l.links l.c) l.u) (right_of (graph_of l.nodes l.text l.links l.c) l.v) l.above
+abbrev pub invariant-loop-w : goal.invariant-loop-w
+invariant-loop-w l = first_left (same_key (graph_of l.nodes l.text l.links l.c) l.u) (right_of (graph_of l.nodes l.text l.links l.c) l.v) l.at ≡ first_left (same_key (graph_of l.nodes l.text l.links l.c) l.u) (right_of (graph_of l.nodes l.text l.links l.c) l.v) l.above
 
-abbrev pub decreases-loop-c : goal.decreases-loop-c
-decreases-loop-c l = length (rest_above l.at (right_of (graph_of l.nodes l.text l.links l.c) l.v))
+abbrev pub decreases-loop-w : goal.decreases-loop-w
+decreases-loop-w l = length (rest_above l.at (right_of (graph_of l.nodes l.text l.links l.c) l.v))

@@ -8,7 +8,7 @@ use lib.ListN.{length, set, length-set}
 use Rattle.handle.specs.declared.Handle.{Handle}
 use Rattle.handle.specs.Handle.{dir_of}
 use Rattle.store.specs.Graph.{Graph, graph_of, handle}
-use Rattle.sides.proofs.Rising.{rest_above, Step, next-step, next_end}
+use Rattle.sides.proofs.Rising.{rest_above, Step, some-step, none_end}
 use Rattle.groups.specs.Groups.{same_key, is_reverse}
 use Rattle.groups.specs.Search.{of_key}
 use Rattle.groups.proofs.Along.{part-all, key_sorted}
@@ -54,83 +54,83 @@ overflow_add-low c =
     let a = c.args in
     omega (arith, c.count_reversed.ensures, length-split (of_key (graph_of a.nodes.now a.text.now a.links.now a.c) a.v a.u))
 
-pub loop-c-init : goal.loop-c-init
-loop-c-init c =
+pub loop-w-init : goal.loop-w-init
+loop-w-init c =
     let a = c.args in
     let g : Graph = graph_of a.nodes.now a.text.now a.links.now a.c in
     start (of_key g a.v a.u) a.base a.members.now c.count_reversed.result (part-all a.nodes.now a.text.now a.links.now a.c c.requires.c_value (same_key g a.u) a.v) c.count_reversed.ensures
 
-pub shape_of-members-then-w-eq0 : goal.shape_of-members-then-w-eq0
-shape_of-members-then-w-eq0 c = c.loop-c.invariant.size
+pub shape_of-members : goal.shape_of-members
+shape_of-members c = c.loop-w.invariant.size
 
-pub returns-then-w-eq0 : goal.returns-then-w-eq0
-returns-then-w-eq0 c =
+pub returns : goal.returns
+returns c =
     let a = c.args in
     let ms : List Handle = of_key (graph_of a.nodes.now a.text.now a.links.now a.c) a.v a.u in
-    let e = next_end c.loop-c.above ms c.next_of_key-w.result c.next_of_key-w.ensures c.if-w-eq0.true in
+    let e = none_end c.loop-w.above ms c.in_default.ensures.value in
     record {
-      place = omega (arith, ap (λ (r : List Handle). length (ups r)) e, c.loop-c.invariant.at_high, length-written ms);
-      bytes = sym (ap (placed c.loop-c.members a.base c.loop-c.high) e) ∙ c.loop-c.invariant.todo;
+      place = omega (arith, ap (λ (r : List Handle). length (ups r)) e, c.loop-w.invariant.at_high, length-written ms);
+      bytes = sym (ap (placed c.loop-w.members a.base c.loop-w.high) e) ∙ c.loop-w.invariant.todo;
     }
 
 pub place-at-requires : goal.place-at-requires
 place-at-requires c =
-    let step : Step c.loop-c.above ((of_key (graph_of c.args.nodes.now c.args.text.now c.args.links.now c.args.c) c.args.v c.args.u)) c.next_of_key-w.result =
+    let step : Step c.loop-w.above ((of_key (graph_of c.args.nodes.now c.args.text.now c.args.links.now c.args.c) c.args.v c.args.u)) c.in-Some.w.packed =
     let a = c.args in
-    next-step c.loop-c.above c.next_of_key-w.result (key_sorted (graph_of a.nodes.now a.text.now a.links.now a.c) a.v a.u) c.next_of_key-w.ensures c.if-w-eq0.false
+    some-step c.loop-w.above c.in-Some.w.packed (key_sorted (graph_of a.nodes.now a.text.now a.links.now a.c) a.v a.u) c.in-Some.ensures.value c.in-Some.ensures.some
     in
     let a = c.args in
-    omega (arith, c.direction-direction.ensures, (one ((of_key (graph_of c.args.nodes.now c.args.text.now c.args.links.now c.args.c) c.args.v c.args.u)) a.base a.members.now c.loop-c.members c.loop-c.low c.loop-c.high c.loop-c.above c.next_of_key-w.result c.loop-c.invariant (step)).room)
+    omega (arith, c.direction-direction.ensures, (one ((of_key (graph_of c.args.nodes.now c.args.text.now c.args.links.now c.args.c) c.args.v c.args.u)) a.base a.members.now c.loop-w.members c.loop-w.low c.loop-w.high c.loop-w.above c.in-Some.w.packed c.loop-w.invariant (step)).room)
 
 pub offset_bounds-members-at : goal.offset_bounds-members-at
 offset_bounds-members-at c =
-    let step : Step c.loop-c.above ((of_key (graph_of c.args.nodes.now c.args.text.now c.args.links.now c.args.c) c.args.v c.args.u)) c.next_of_key-w.result =
+    let step : Step c.loop-w.above ((of_key (graph_of c.args.nodes.now c.args.text.now c.args.links.now c.args.c) c.args.v c.args.u)) c.in-Some.w.packed =
     let a = c.args in
-    next-step c.loop-c.above c.next_of_key-w.result (key_sorted (graph_of a.nodes.now a.text.now a.links.now a.c) a.v a.u) c.next_of_key-w.ensures c.if-w-eq0.false
+    some-step c.loop-w.above c.in-Some.w.packed (key_sorted (graph_of a.nodes.now a.text.now a.links.now a.c) a.v a.u) c.in-Some.ensures.value c.in-Some.ensures.some
     in
     let a = c.args in
-    omega (arith, inside ((of_key (graph_of c.args.nodes.now c.args.text.now c.args.links.now c.args.c) c.args.v c.args.u)) a.base a.members.now c.loop-c.members c.loop-c.low c.loop-c.high c.loop-c.above c.next_of_key-w.result c.loop-c.invariant (step) c.direction-direction.result c.place-at.result c.direction-direction.ensures c.place-at.ensures, c.loop-c.invariant.size, c.requires.u_in_bounds, c.well_formed)
+    omega (arith, inside ((of_key (graph_of c.args.nodes.now c.args.text.now c.args.links.now c.args.c) c.args.v c.args.u)) a.base a.members.now c.loop-w.members c.loop-w.low c.loop-w.high c.loop-w.above c.in-Some.w.packed c.loop-w.invariant (step) c.direction-direction.result c.place-at.result c.direction-direction.ensures c.place-at.ensures, c.loop-w.invariant.size, c.requires.u_in_bounds, c.well_formed)
 
 pub bounds-members-at : goal.bounds-members-at
 bounds-members-at c =
-    let step : Step c.loop-c.above ((of_key (graph_of c.args.nodes.now c.args.text.now c.args.links.now c.args.c) c.args.v c.args.u)) c.next_of_key-w.result =
+    let step : Step c.loop-w.above ((of_key (graph_of c.args.nodes.now c.args.text.now c.args.links.now c.args.c) c.args.v c.args.u)) c.in-Some.w.packed =
     let a = c.args in
-    next-step c.loop-c.above c.next_of_key-w.result (key_sorted (graph_of a.nodes.now a.text.now a.links.now a.c) a.v a.u) c.next_of_key-w.ensures c.if-w-eq0.false
+    some-step c.loop-w.above c.in-Some.w.packed (key_sorted (graph_of a.nodes.now a.text.now a.links.now a.c) a.v a.u) c.in-Some.ensures.value c.in-Some.ensures.some
     in
     let a = c.args in
-    omega (arith, inside ((of_key (graph_of c.args.nodes.now c.args.text.now c.args.links.now c.args.c) c.args.v c.args.u)) a.base a.members.now c.loop-c.members c.loop-c.low c.loop-c.high c.loop-c.above c.next_of_key-w.result c.loop-c.invariant (step) c.direction-direction.result c.place-at.result c.direction-direction.ensures c.place-at.ensures, c.loop-c.invariant.size, c.requires.u_in_bounds)
+    omega (arith, inside ((of_key (graph_of c.args.nodes.now c.args.text.now c.args.links.now c.args.c) c.args.v c.args.u)) a.base a.members.now c.loop-w.members c.loop-w.low c.loop-w.high c.loop-w.above c.in-Some.w.packed c.loop-w.invariant (step) c.direction-direction.result c.place-at.result c.direction-direction.ensures c.place-at.ensures, c.loop-w.invariant.size, c.requires.u_in_bounds)
 
 pub overflow_sub-low : goal.overflow_sub-low
 overflow_sub-low c =
-    let step : Step c.loop-c.above ((of_key (graph_of c.args.nodes.now c.args.text.now c.args.links.now c.args.c) c.args.v c.args.u)) c.next_of_key-w.result =
+    let step : Step c.loop-w.above ((of_key (graph_of c.args.nodes.now c.args.text.now c.args.links.now c.args.c) c.args.v c.args.u)) c.in-Some.w.packed =
     let a = c.args in
-    next-step c.loop-c.above c.next_of_key-w.result (key_sorted (graph_of a.nodes.now a.text.now a.links.now a.c) a.v a.u) c.next_of_key-w.ensures c.if-w-eq0.false
+    some-step c.loop-w.above c.in-Some.w.packed (key_sorted (graph_of a.nodes.now a.text.now a.links.now a.c) a.v a.u) c.in-Some.ensures.value c.in-Some.ensures.some
     in
     let a = c.args in
-    omega (arith, c.direction-direction.ensures, (one ((of_key (graph_of c.args.nodes.now c.args.text.now c.args.links.now c.args.c) c.args.v c.args.u)) a.base a.members.now c.loop-c.members c.loop-c.low c.loop-c.high c.loop-c.above c.next_of_key-w.result c.loop-c.invariant (step)).room)
+    omega (arith, c.direction-direction.ensures, (one ((of_key (graph_of c.args.nodes.now c.args.text.now c.args.links.now c.args.c) c.args.v c.args.u)) a.base a.members.now c.loop-w.members c.loop-w.low c.loop-w.high c.loop-w.above c.in-Some.w.packed c.loop-w.invariant (step)).room)
 
 pub overflow_add-high : goal.overflow_add-high
 overflow_add-high c =
-    let step : Step c.loop-c.above ((of_key (graph_of c.args.nodes.now c.args.text.now c.args.links.now c.args.c) c.args.v c.args.u)) c.next_of_key-w.result =
+    let step : Step c.loop-w.above ((of_key (graph_of c.args.nodes.now c.args.text.now c.args.links.now c.args.c) c.args.v c.args.u)) c.in-Some.w.packed =
     let a = c.args in
-    next-step c.loop-c.above c.next_of_key-w.result (key_sorted (graph_of a.nodes.now a.text.now a.links.now a.c) a.v a.u) c.next_of_key-w.ensures c.if-w-eq0.false
+    some-step c.loop-w.above c.in-Some.w.packed (key_sorted (graph_of a.nodes.now a.text.now a.links.now a.c) a.v a.u) c.in-Some.ensures.value c.in-Some.ensures.some
     in
     let a = c.args in
-    omega (arith, (next ((of_key (graph_of c.args.nodes.now c.args.text.now c.args.links.now c.args.c) c.args.v c.args.u)) a.base a.members.now c.loop-c.members c.loop-c.low c.loop-c.high c.loop-c.above c.next_of_key-w.result c.loop-c.invariant (step) c.direction-direction.result c.place-at.result c.direction-direction.ensures c.place-at.ensures).at_high, c.requires.u_in_bounds, c.well_formed)
+    omega (arith, (next ((of_key (graph_of c.args.nodes.now c.args.text.now c.args.links.now c.args.c) c.args.v c.args.u)) a.base a.members.now c.loop-w.members c.loop-w.low c.loop-w.high c.loop-w.above c.in-Some.w.packed c.loop-w.invariant (step) c.direction-direction.result c.place-at.result c.direction-direction.ensures c.place-at.ensures).at_high, c.requires.u_in_bounds, c.well_formed)
 
-pub loop-c-smaller : goal.loop-c-smaller
-loop-c-smaller c =
-    let step : Step c.loop-c.above ((of_key (graph_of c.args.nodes.now c.args.text.now c.args.links.now c.args.c) c.args.v c.args.u)) c.next_of_key-w.result =
+pub loop-w-smaller : goal.loop-w-smaller
+loop-w-smaller c =
+    let step : Step c.loop-w.above ((of_key (graph_of c.args.nodes.now c.args.text.now c.args.links.now c.args.c) c.args.v c.args.u)) c.in-Some.w.packed =
     let a = c.args in
-    next-step c.loop-c.above c.next_of_key-w.result (key_sorted (graph_of a.nodes.now a.text.now a.links.now a.c) a.v a.u) c.next_of_key-w.ensures c.if-w-eq0.false
+    some-step c.loop-w.above c.in-Some.w.packed (key_sorted (graph_of a.nodes.now a.text.now a.links.now a.c) a.v a.u) c.in-Some.ensures.value c.in-Some.ensures.some
     in
     let s = step in omega (arith, ap length s.rest)
 
-pub loop-c-preserved : goal.loop-c-preserved
-loop-c-preserved c =
-    let step : Step c.loop-c.above ((of_key (graph_of c.args.nodes.now c.args.text.now c.args.links.now c.args.c) c.args.v c.args.u)) c.next_of_key-w.result =
+pub loop-w-preserved : goal.loop-w-preserved
+loop-w-preserved c =
+    let step : Step c.loop-w.above ((of_key (graph_of c.args.nodes.now c.args.text.now c.args.links.now c.args.c) c.args.v c.args.u)) c.in-Some.w.packed =
     let a = c.args in
-    next-step c.loop-c.above c.next_of_key-w.result (key_sorted (graph_of a.nodes.now a.text.now a.links.now a.c) a.v a.u) c.next_of_key-w.ensures c.if-w-eq0.false
+    some-step c.loop-w.above c.in-Some.w.packed (key_sorted (graph_of a.nodes.now a.text.now a.links.now a.c) a.v a.u) c.in-Some.ensures.value c.in-Some.ensures.some
     in
     let a = c.args in
-    next ((of_key (graph_of c.args.nodes.now c.args.text.now c.args.links.now c.args.c) c.args.v c.args.u)) a.base a.members.now c.loop-c.members c.loop-c.low c.loop-c.high c.loop-c.above c.next_of_key-w.result c.loop-c.invariant (step) c.direction-direction.result c.place-at.result c.direction-direction.ensures c.place-at.ensures
+    next ((of_key (graph_of c.args.nodes.now c.args.text.now c.args.links.now c.args.c) c.args.v c.args.u)) a.base a.members.now c.loop-w.members c.loop-w.low c.loop-w.high c.loop-w.above c.in-Some.w.packed c.loop-w.invariant (step) c.direction-direction.result c.place-at.result c.direction-direction.ensures c.place-at.ensures

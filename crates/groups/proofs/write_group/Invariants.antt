@@ -19,8 +19,8 @@ pub record Inv (ms : List Handle) (base : ℕ) (l₀ l : List ℕ) (low high abo
   pub order : low ≤ high
   pub todo : placed l base high (rest_above above ms) ≡ sets l₀ base (numbers (arranged ms))
 
-abbrev pub invariant-loop-c : goal.invariant-loop-c
-invariant-loop-c l = Inv (of_key (graph_of l.nodes l.text l.links l.c) l.v l.u) l.base l.initial.members l.members l.low l.high l.above
+abbrev pub invariant-loop-w : goal.invariant-loop-w
+invariant-loop-w l = Inv (of_key (graph_of l.nodes l.text l.links l.c) l.v l.u) l.base l.initial.members l.members l.low l.high l.above
 
-abbrev pub decreases-loop-c : goal.decreases-loop-c
-decreases-loop-c l = length (rest_above l.above (of_key (graph_of l.nodes l.text l.links l.c) l.v l.u))
+abbrev pub decreases-loop-w : goal.decreases-loop-w
+decreases-loop-w l = length (rest_above l.above (of_key (graph_of l.nodes l.text l.links l.c) l.v l.u))

@@ -10,7 +10,7 @@ use Rattle.kit.proofs.Writes.{sets-front, put-left}
 use Rattle.handle.specs.declared.Handle.{Handle}
 use Rattle.store.specs.Graph.{Graph, graph_of, handle}
 use Rattle.sides.specs.Sides.{right_of}
-use Rattle.sides.proofs.Rising.{rest_above, Step, next-step, next_end}
+use Rattle.sides.proofs.Rising.{rest_above, Step, some-step, none_end}
 use Rattle.groups.specs.Groups.{group_of, groups_of, members_of, ends_from, numbers, over}
 use Rattle.groups.specs.Search.{of_key, heads_of}
 use Rattle.groups.proofs.Along.{heads-all, heads_sorted}
@@ -82,77 +82,77 @@ module _ (g : Graph) (v : Handle) (m₀ e₀ : List ℕ) where
                 ∙ sym (ap (λ (gs : List (List Handle)). sets e n (ends_from at gs)) cut) ∙ i.ends_todo;
           }
 
-pub loop-c-init : goal.loop-c-init
-loop-c-init c =
+pub loop-u-init : goal.loop-u-init
+loop-u-init c =
     let a = c.args in
     start (graph_of a.nodes.now a.text.now a.links.now a.c) a.v a.members.now a.ends.now (heads-all a.nodes.now a.text.now a.links.now a.c c.requires.c_value a.v)
 
-pub shape_of-members-then-u-eq0 : goal.shape_of-members-then-u-eq0
-shape_of-members-then-u-eq0 c = c.loop-c.invariant.member_room
+pub shape_of-members : goal.shape_of-members
+shape_of-members c = c.loop-u.invariant.member_room
 
-pub shape_of-ends-then-u-eq0 : goal.shape_of-ends-then-u-eq0
-shape_of-ends-then-u-eq0 c = c.loop-c.invariant.end_room
+pub shape_of-ends : goal.shape_of-ends
+shape_of-ends c = c.loop-u.invariant.end_room
 
-pub returns-then-u-eq0 : goal.returns-then-u-eq0
-returns-then-u-eq0 c =
+pub returns : goal.returns
+returns c =
     let a = c.args in
     let g : Graph = graph_of a.nodes.now a.text.now a.links.now a.c in
-    let z = next_end c.loop-c.above (heads_of g a.v) c.next_head-u.result c.next_head-u.ensures c.if-u-eq0.true in record { members_after = members_done g a.v a.members.now a.ends.now c.loop-c.members c.loop-c.ends c.loop-c.n c.loop-c.at c.loop-c.above c.loop-c.invariant z c.requires.v_in_bounds.0; ends_after = ends-done g a.v a.members.now a.ends.now c.loop-c.members c.loop-c.ends c.loop-c.n c.loop-c.at c.loop-c.above c.loop-c.invariant z c.requires.v_in_bounds.1 }
+    let z = none_end c.loop-u.above (heads_of g a.v) c.in_default.ensures.value in record { members_after = members_done g a.v a.members.now a.ends.now c.loop-u.members c.loop-u.ends c.loop-u.n c.loop-u.at c.loop-u.above c.loop-u.invariant z c.requires.v_in_bounds.0; ends_after = ends-done g a.v a.members.now a.ends.now c.loop-u.members c.loop-u.ends c.loop-u.n c.loop-u.at c.loop-u.above c.loop-u.invariant z c.requires.v_in_bounds.1 }
 
 pub write_group-at-requires : goal.write_group-at-requires
 write_group-at-requires c =
-    let step : Step c.loop-c.above (heads_of (graph_of c.args.nodes.now c.args.text.now c.args.links.now c.args.c) c.args.v) c.next_head-u.result =
+    let step : Step c.loop-u.above (heads_of (graph_of c.args.nodes.now c.args.text.now c.args.links.now c.args.c) c.args.v) c.in-Some.u.packed =
     let a = c.args in
-    next-step c.loop-c.above c.next_head-u.result (heads_sorted (graph_of a.nodes.now a.text.now a.links.now a.c) a.v) c.next_head-u.ensures c.if-u-eq0.false
+    some-step c.loop-u.above c.in-Some.u.packed (heads_sorted (graph_of a.nodes.now a.text.now a.links.now a.c) a.v) c.in-Some.ensures.value c.in-Some.ensures.some
     in
     let a = c.args in
     let g : Graph = graph_of a.nodes.now a.text.now a.links.now a.c in
-    record { c_value = c.requires.c_value; u_in_bounds = omega (arith, fits g a.v a.members.now a.ends.now c.loop-c.members c.loop-c.ends c.loop-c.n c.loop-c.at c.loop-c.above c.loop-c.invariant c.next_head-u.result (step), c.loop-c.invariant.member_room, c.requires.v_in_bounds.0) }
+    record { c_value = c.requires.c_value; u_in_bounds = omega (arith, fits g a.v a.members.now a.ends.now c.loop-u.members c.loop-u.ends c.loop-u.n c.loop-u.at c.loop-u.above c.loop-u.invariant c.in-Some.u.packed (step), c.loop-u.invariant.member_room, c.requires.v_in_bounds.0) }
 
 pub offset_bounds-ends-n : goal.offset_bounds-ends-n
 offset_bounds-ends-n c =
-    let step : Step c.loop-c.above (heads_of (graph_of c.args.nodes.now c.args.text.now c.args.links.now c.args.c) c.args.v) c.next_head-u.result =
+    let step : Step c.loop-u.above (heads_of (graph_of c.args.nodes.now c.args.text.now c.args.links.now c.args.c) c.args.v) c.in-Some.u.packed =
     let a = c.args in
-    next-step c.loop-c.above c.next_head-u.result (heads_sorted (graph_of a.nodes.now a.text.now a.links.now a.c) a.v) c.next_head-u.ensures c.if-u-eq0.false
+    some-step c.loop-u.above c.in-Some.u.packed (heads_sorted (graph_of a.nodes.now a.text.now a.links.now a.c) a.v) c.in-Some.ensures.value c.in-Some.ensures.some
     in
     let a = c.args in
     let g : Graph = graph_of a.nodes.now a.text.now a.links.now a.c in
-    omega (arith, free g a.v a.members.now a.ends.now c.loop-c.members c.loop-c.ends c.loop-c.n c.loop-c.at c.loop-c.above c.loop-c.invariant c.next_head-u.result (step), c.loop-c.invariant.end_room, c.requires.v_in_bounds.1, c.well_formed)
+    omega (arith, free g a.v a.members.now a.ends.now c.loop-u.members c.loop-u.ends c.loop-u.n c.loop-u.at c.loop-u.above c.loop-u.invariant c.in-Some.u.packed (step), c.loop-u.invariant.end_room, c.requires.v_in_bounds.1, c.well_formed)
 
 pub bounds-ends-n : goal.bounds-ends-n
 bounds-ends-n c =
-    let step : Step c.loop-c.above (heads_of (graph_of c.args.nodes.now c.args.text.now c.args.links.now c.args.c) c.args.v) c.next_head-u.result =
+    let step : Step c.loop-u.above (heads_of (graph_of c.args.nodes.now c.args.text.now c.args.links.now c.args.c) c.args.v) c.in-Some.u.packed =
     let a = c.args in
-    next-step c.loop-c.above c.next_head-u.result (heads_sorted (graph_of a.nodes.now a.text.now a.links.now a.c) a.v) c.next_head-u.ensures c.if-u-eq0.false
+    some-step c.loop-u.above c.in-Some.u.packed (heads_sorted (graph_of a.nodes.now a.text.now a.links.now a.c) a.v) c.in-Some.ensures.value c.in-Some.ensures.some
     in
     let a = c.args in
     let g : Graph = graph_of a.nodes.now a.text.now a.links.now a.c in
-    omega (arith, free g a.v a.members.now a.ends.now c.loop-c.members c.loop-c.ends c.loop-c.n c.loop-c.at c.loop-c.above c.loop-c.invariant c.next_head-u.result (step), c.loop-c.invariant.end_room, c.requires.v_in_bounds.1, c.well_formed)
+    omega (arith, free g a.v a.members.now a.ends.now c.loop-u.members c.loop-u.ends c.loop-u.n c.loop-u.at c.loop-u.above c.loop-u.invariant c.in-Some.u.packed (step), c.loop-u.invariant.end_room, c.requires.v_in_bounds.1, c.well_formed)
 
 pub overflow_add-n : goal.overflow_add-n
 overflow_add-n c =
-    let step : Step c.loop-c.above (heads_of (graph_of c.args.nodes.now c.args.text.now c.args.links.now c.args.c) c.args.v) c.next_head-u.result =
+    let step : Step c.loop-u.above (heads_of (graph_of c.args.nodes.now c.args.text.now c.args.links.now c.args.c) c.args.v) c.in-Some.u.packed =
     let a = c.args in
-    next-step c.loop-c.above c.next_head-u.result (heads_sorted (graph_of a.nodes.now a.text.now a.links.now a.c) a.v) c.next_head-u.ensures c.if-u-eq0.false
+    some-step c.loop-u.above c.in-Some.u.packed (heads_sorted (graph_of a.nodes.now a.text.now a.links.now a.c) a.v) c.in-Some.ensures.value c.in-Some.ensures.some
     in
     let a = c.args in
     let g : Graph = graph_of a.nodes.now a.text.now a.links.now a.c in
-    omega (arith, free g a.v a.members.now a.ends.now c.loop-c.members c.loop-c.ends c.loop-c.n c.loop-c.at c.loop-c.above c.loop-c.invariant c.next_head-u.result (step), c.loop-c.invariant.end_room, c.requires.v_in_bounds.1, c.well_formed)
+    omega (arith, free g a.v a.members.now a.ends.now c.loop-u.members c.loop-u.ends c.loop-u.n c.loop-u.at c.loop-u.above c.loop-u.invariant c.in-Some.u.packed (step), c.loop-u.invariant.end_room, c.requires.v_in_bounds.1, c.well_formed)
 
-pub loop-c-smaller : goal.loop-c-smaller
-loop-c-smaller c =
-    let step : Step c.loop-c.above (heads_of (graph_of c.args.nodes.now c.args.text.now c.args.links.now c.args.c) c.args.v) c.next_head-u.result =
+pub loop-u-smaller : goal.loop-u-smaller
+loop-u-smaller c =
+    let step : Step c.loop-u.above (heads_of (graph_of c.args.nodes.now c.args.text.now c.args.links.now c.args.c) c.args.v) c.in-Some.u.packed =
     let a = c.args in
-    next-step c.loop-c.above c.next_head-u.result (heads_sorted (graph_of a.nodes.now a.text.now a.links.now a.c) a.v) c.next_head-u.ensures c.if-u-eq0.false
+    some-step c.loop-u.above c.in-Some.u.packed (heads_sorted (graph_of a.nodes.now a.text.now a.links.now a.c) a.v) c.in-Some.ensures.value c.in-Some.ensures.some
     in
     let s = step in omega (arith, ap length s.rest)
 
-pub loop-c-preserved : goal.loop-c-preserved
-loop-c-preserved c =
-    let step : Step c.loop-c.above (heads_of (graph_of c.args.nodes.now c.args.text.now c.args.links.now c.args.c) c.args.v) c.next_head-u.result =
+pub loop-u-preserved : goal.loop-u-preserved
+loop-u-preserved c =
+    let step : Step c.loop-u.above (heads_of (graph_of c.args.nodes.now c.args.text.now c.args.links.now c.args.c) c.args.v) c.in-Some.u.packed =
     let a = c.args in
-    next-step c.loop-c.above c.next_head-u.result (heads_sorted (graph_of a.nodes.now a.text.now a.links.now a.c) a.v) c.next_head-u.ensures c.if-u-eq0.false
+    some-step c.loop-u.above c.in-Some.u.packed (heads_sorted (graph_of a.nodes.now a.text.now a.links.now a.c) a.v) c.in-Some.ensures.value c.in-Some.ensures.some
     in
     let a = c.args in
     let g : Graph = graph_of a.nodes.now a.text.now a.links.now a.c in
-    next g a.v a.members.now a.ends.now c.loop-c.members c.loop-c.ends c.loop-c.n c.loop-c.at c.loop-c.above c.loop-c.invariant c.next_head-u.result (step) _ c.write_group-at.result c.write_group-at.ensures
+    next g a.v a.members.now a.ends.now c.loop-u.members c.loop-u.ends c.loop-u.n c.loop-u.at c.loop-u.above c.loop-u.invariant c.in-Some.u.packed (step) _ c.write_group-at.result c.write_group-at.ensures

@@ -24,8 +24,8 @@ pub record Inv (g : Graph) (v : Handle) (m₀ e₀ m e : List ℕ) (n at above :
   pub members_todo : sets m at (numbers (members_of (left g v above))) ≡ sets m₀ 0 (numbers (members_of (groups_of g v)))
   pub ends_todo : sets e n (ends_from at (left g v above)) ≡ sets e₀ 0 (ends_from 0 (groups_of g v))
 
-abbrev pub invariant-loop-c : goal.invariant-loop-c
-invariant-loop-c l = Inv (graph_of l.nodes l.text l.links l.c) l.v l.initial.members l.initial.ends l.members l.ends l.n l.at l.above
+abbrev pub invariant-loop-u : goal.invariant-loop-u
+invariant-loop-u l = Inv (graph_of l.nodes l.text l.links l.c) l.v l.initial.members l.initial.ends l.members l.ends l.n l.at l.above
 
-abbrev pub decreases-loop-c : goal.decreases-loop-c
-decreases-loop-c l = length (rest_above l.above (heads_of (graph_of l.nodes l.text l.links l.c) l.v))
+abbrev pub decreases-loop-u : goal.decreases-loop-u
+decreases-loop-u l = length (rest_above l.above (heads_of (graph_of l.nodes l.text l.links l.c) l.v))

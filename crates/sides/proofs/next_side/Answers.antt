@@ -32,6 +32,11 @@ returns c =
     let a = c.args in
     let z : c.loop-i.i ≡ 0 = omega arith in
     let g = bare a.nodes.now a.links.now a.c in
-    c.loop-i.invariant
-    ∙ ap (from_slot a.left a.v a.above g.nodes a.c.links a.links.now) z
-    ∙ next-found a.left g a.v a.above
+    record {
+      value =
+          c.handle_of.ensures.value
+          ∙ c.loop-i.invariant
+          ∙ ap (from_slot a.left a.v a.above g.nodes a.c.links a.links.now) z
+          ∙ next-found a.left g a.v a.above;
+      some = c.handle_of.ensures.some;
+    }
