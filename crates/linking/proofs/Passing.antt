@@ -23,7 +23,7 @@ use Rattle.store.proofs.Fields.{link_at, back_link}
 use Rattle.formed.specs.WellFormed.{unmarked_link}
 use Rattle.sides.specs.Sides.{right_ends, next_above}
 use Rattle.sides.specs.Search.{lowest}
-use Rattle.sides.proofs.Rising.{Step, rest_above, rising_sorted, rest_all, next-lowest, next-step, next_end}
+use Rattle.sides.proofs.Rising.{Step, rest_above, rising_sorted, rest_all, next-lowest, some-step, none_end}
 use Rattle.sides.proofs.Search.{lowest-append}
 use Rattle.split.proofs.Ends.{both_ends, both-written}
 use Rattle.merging.specs.Merging.{add_link, add_links, read_as}
@@ -87,16 +87,16 @@ module _ (m : Handle) where
   pub right-all : (rs : List Link) → all ends_named rs ≡ true → rest_above 0 (right_in rs m) ≡ right_in rs m
   right-all rs t = rest_all 0 (right_in rs m) (λ u k. let h = named-right rs m t k in omega (arith, tests))
 
-  pub right-next : (rs : List Link) (above y : ℕ) → y ≡ next_above above (right_in rs m) → (y ≡ 0 → ⊥) → Step above (right_in rs m) y
-  right-next rs above y e h = next-step above y (rising_sorted (lines (right_ends m) (keep unmarked_link rs))) e h
+  pub right-next : (rs : List Link) (above y : ℕ) → y ≡ next_above above (right_in rs m) → 0 < y → Step above (right_in rs m) y
+  right-next rs above y e h = some-step above y (rising_sorted (lines (right_ends m) (keep unmarked_link rs))) e h
 
 -- links from x to m's neighbours above a number: what is left to add
 abbrev pub to_pass : Handle → Handle → ℕ → List Link → List Link
 to_pass m x above rs = add_links x (map (read_as m x) (rest_above above (right_in rs m))) rs
 
-module _ (m x : Handle) (rs : List Link) (above y : ℕ) (e : y ≡ next_above above (right_in rs m)) where
+module _ (m x : Handle) (rs : List Link) (above : ℕ) where
   -- one of them is added
-  module _ (away : eqb (id_of x) (id_of m) ≡ false) (h : y ≡ 0 → ⊥) where
+  module _ (y : ℕ) (e : y ≡ next_above above (right_in rs m)) (away : eqb (id_of x) (id_of m) ≡ false) (h : 0 < y) where
     abbrev added : List Link
     added = add_link (edge x (read_as m x (handle y))) rs
 
@@ -109,5 +109,5 @@ module _ (m x : Handle) (rs : List Link) (above y : ℕ) (e : y ≡ next_above a
     pass_less = rw (right_stays m x away (handle y) rs) (omega (arith, ap length (right-next m rs above y e h).rest))
 
   -- none is left
-  pub pass_end : y ≡ 0 → to_pass m x above rs ≡ rs
-  pass_end z = ap (λ (hs : List Handle). add_links x (map (read_as m x) hs) rs) (next_end above (right_in rs m) y e z)
+  pub pass_end : 0 ≡ next_above above (right_in rs m) → to_pass m x above rs ≡ rs
+  pass_end e = ap (λ (hs : List Handle). add_links x (map (read_as m x) hs) rs) (none_end above (right_in rs m) e)

@@ -1,13 +1,13 @@
 // The links of a collapse, made in room of their own. There a mark says that a link is not live.
 #![tactic(auto)]
 
-ghost use Rattle.std.specs.Prelude.{◌+◌, ◌*◌, ◌≤◌, ◌≡◌, true, false, cond, ◌||◌, [], ◌∷◌, ◌++◌, map, eqb, leb, length, drop};
+ghost use Rattle.std.specs.Prelude.{IfSome, ◌+◌, ◌*◌, ◌≤◌, ◌<◌, ◌≡◌, true, false, cond, ◌||◌, [], ◌∷◌, ◌++◌, map, eqb, leb, length, drop};
 ghost use Rattle.kit.specs.Layout.{encode};
 ghost use Rattle.kit.specs.Loops.{all};
 ghost use Rattle.handle.specs.Handle.{max_id, id_of};
 ghost use Rattle.handle.specs.Edge.{edge, written};
 ghost use Rattle.store.specs.Graph.{link, handle, link_layout, nodes_of, links_of};
-ghost use Rattle.sides.specs.Sides.{next_above};
+ghost use Rattle.sides.specs.Sides.{next_above, packed_of};
 ghost use Rattle.split.specs.Split.{split_links};
 ghost use Rattle.merging.specs.Merging.{add_link, add_links, read_as};
 ghost use Rattle.merging.specs.Plan.{bury, right_in, long_by, later_links_all, planned};
@@ -49,11 +49,12 @@ fn add_link(links: &mut [u64], count: usize, x: Handle, y: Handle) -> Option<usi
     Some(count)
 }
 
-// The next neighbour on v's right above a packed number, by an unmarked link; 0 where there is none. From the last link to
-// the first, as `lowest` goes.
-fn next_unmarked(links: &[u64], count: usize, v: Handle, above: u64) -> u64
+// The next neighbour on v's right above a packed number, by an unmarked link. From the last link to the first, as
+// `lowest` goes.
+fn next_unmarked(links: &[u64], count: usize, v: Handle, above: u64) -> Option<Handle>
     requires { 3 * count ≤ length links.now }
-    ensures { result ≡ next_above above (right_in (links_of count links.now) v) }
+    ensures value { packed_of result ≡ next_above above (right_in (links_of count links.now) v) }
+    ensures some { IfSome result (λ h. 0 < h.packed) }
 {
     let mut best: u64 = 0;
     for i in (0..count).rev() {
@@ -62,7 +63,7 @@ fn next_unmarked(links: &[u64], count: usize, v: Handle, above: u64) -> u64
             best = sides::lead(v, l, above, best);
         }
     }
-    best
+    sides::handle_of(best)
 }
 
 // The member itself is read as the shared node, either way round.
@@ -89,16 +90,13 @@ fn pass_on(links: &mut [u64], count: usize, m: Handle, x: Handle) -> Option<usiz
 {
     let mut n = count;
     let mut above: u64 = 0;
-    loop {
-        let y = next_unmarked(links, n, m, above);
-        if y == 0 {
-            return Some(n);
-        }
-        let to = read_as(m, x, Handle { packed: y });
+    while let Some(y) = next_unmarked(links, n, m, above) {
+        let to = read_as(m, x, y);
         let more = add_link(links, n, x, to)?;
         n = more;
-        above = y;
+        above = y.packed;
     }
+    Some(n)
 }
 
 fn bury_mark(l: Link, id: u64) -> u64

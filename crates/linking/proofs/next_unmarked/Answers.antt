@@ -29,4 +29,4 @@ pub returns : goal.returns
 returns c =
     let a = c.args in
     let z : c.loop-i.i ≡ 0 = omega arith in
-    c.loop-i.invariant ∙ ap (from_slot a.v a.above a.count a.links.now) z ∙ next-found a.v a.above a.count a.links.now
+    record { value = c.handle_of.ensures.value ∙ c.loop-i.invariant ∙ ap (from_slot a.v a.above a.count a.links.now) z ∙ next-found a.v a.above a.count a.links.now; some = c.handle_of.ensures.some }

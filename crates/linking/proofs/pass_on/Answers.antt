@@ -25,7 +25,7 @@ record Met (links₀ : List ℕ) (count : ℕ) (m x : Handle) (links : List ℕ)
   inv : Inv links₀ count m x links n above
   away : eqb (id_of x) (id_of m) ≡ false
   next_is : y ≡ next_above above (right_in (links_of n links) m)
-  some : y ≡ 0 → ⊥
+  some : 0 < y
   to_is : to ≡ read_as m x (handle y)
 
 module _ {links₀ links : List ℕ} {count n above y : ℕ} {m x to : Handle} (k : Met links₀ count m x links n above y to) where
@@ -48,8 +48,8 @@ module _ {links₀ links : List ℕ} {count n above y : ℕ} {m x to : Handle} (
     less : length (rest_above y (right_in (links_of i after) m)) < length (rest_above above (right_in rs m))
     less = rw (holds_links s, k.to_is) (pass_less m x rs above y k.next_is k.away k.some)
 
-pub loop-m-init : goal.loop-m-init
-loop-m-init c =
+pub loop-y-init : goal.loop-y-init
+loop-y-init c =
     let a = c.args in
     let rs = links_of a.count a.links.now in
     record {
@@ -58,29 +58,29 @@ loop-m-init c =
       todo = ap (λ (hs : List Handle). add_links a.x (map (read_as a.m a.x) hs) rs) (right-all a.m rs c.requires.m_value.1);
     }
 
-pub returns-then-y-eq0 : goal.returns-then-y-eq0
-returns-then-y-eq0 c =
+pub returns : goal.returns
+returns c =
     let a = c.args in
-    made_as c.loop-m.invariant.holds (sym (pass_end a.m a.x (links_of c.loop-m.n c.loop-m.links) c.loop-m.above c.next_unmarked-y.result c.next_unmarked-y.ensures c.if-y-eq0.true) ∙ c.loop-m.invariant.todo)
+    made_as c.loop-y.invariant.holds (sym (pass_end a.m a.x (links_of c.loop-y.n c.loop-y.links) c.loop-y.above c.in_default.ensures.value) ∙ c.loop-y.invariant.todo)
 
 pub returns-in_err-more : goal.returns-in_err-more
 returns-in_err-more c =
-    let met : Met c.args.links.now c.args.count c.args.m c.args.x c.loop-m.links c.loop-m.n c.loop-m.above c.next_unmarked-y.result c.read_as-to.result =
-    record { inv = c.loop-m.invariant; away = c.requires.m_value.0; next_is = c.next_unmarked-y.ensures; some = c.if-y-eq0.false; to_is = c.read_as-to.ensures }
+    let met : Met c.args.links.now c.args.count c.args.m c.args.x c.loop-y.links c.loop-y.n c.loop-y.above c.in-Some.y.packed c.read_as-to.result =
+    record { inv = c.loop-y.invariant; away = c.requires.m_value.0; next_is = c.in-Some.ensures.value; some = c.in-Some.ensures.some; to_is = c.read_as-to.ensures }
     in
     let k = met in
     rw c.from_residual.ensures (then_full k.inv.holds c.add_link.ensures c.in_err-more.was (grown k))
 
-pub loop-m-smaller : goal.loop-m-smaller
-loop-m-smaller c =
-    let met : Met c.args.links.now c.args.count c.args.m c.args.x c.loop-m.links c.loop-m.n c.loop-m.above c.next_unmarked-y.result c.read_as-to.result =
-    record { inv = c.loop-m.invariant; away = c.requires.m_value.0; next_is = c.next_unmarked-y.ensures; some = c.if-y-eq0.false; to_is = c.read_as-to.ensures }
+pub loop-y-smaller : goal.loop-y-smaller
+loop-y-smaller c =
+    let met : Met c.args.links.now c.args.count c.args.m c.args.x c.loop-y.links c.loop-y.n c.loop-y.above c.in-Some.y.packed c.read_as-to.result =
+    record { inv = c.loop-y.invariant; away = c.requires.m_value.0; next_is = c.in-Some.ensures.value; some = c.in-Some.ensures.some; to_is = c.read_as-to.ensures }
     in
     less (met) c.in_ok-more.more (made-count c.in_ok-more.more c.add_link.ensures c.in_ok-more.was)
 
-pub loop-m-preserved : goal.loop-m-preserved
-loop-m-preserved c =
-    let met : Met c.args.links.now c.args.count c.args.m c.args.x c.loop-m.links c.loop-m.n c.loop-m.above c.next_unmarked-y.result c.read_as-to.result =
-    record { inv = c.loop-m.invariant; away = c.requires.m_value.0; next_is = c.next_unmarked-y.ensures; some = c.if-y-eq0.false; to_is = c.read_as-to.ensures }
+pub loop-y-preserved : goal.loop-y-preserved
+loop-y-preserved c =
+    let met : Met c.args.links.now c.args.count c.args.m c.args.x c.loop-y.links c.loop-y.n c.loop-y.above c.in-Some.y.packed c.read_as-to.result =
+    record { inv = c.loop-y.invariant; away = c.requires.m_value.0; next_is = c.in-Some.ensures.value; some = c.in-Some.ensures.some; to_is = c.read_as-to.ensures }
     in
     turn (met) c.in_ok-more.more (made-count c.in_ok-more.more c.add_link.ensures c.in_ok-more.was)

@@ -17,8 +17,8 @@ pub record Inv (links₀ : List ℕ) (count : ℕ) (m x : Handle) (links : List 
   pub holds : Holds links₀ (links_of n links) n links
   pub todo : to_pass m x above (links_of n links) ≡ add_links x (map (read_as m x) (right_in (links_of count links₀) m)) (links_of count links₀)
 
-abbrev pub invariant-loop-m : goal.invariant-loop-m
-invariant-loop-m l = Inv l.initial.links l.count l.m l.x l.links l.n l.above
+abbrev pub invariant-loop-y : goal.invariant-loop-y
+invariant-loop-y l = Inv l.initial.links l.count l.m l.x l.links l.n l.above
 
-abbrev pub decreases-loop-m : goal.decreases-loop-m
-decreases-loop-m l = length (rest_above l.above (right_in (links_of l.n l.links) l.m))
+abbrev pub decreases-loop-y : goal.decreases-loop-y
+decreases-loop-y l = length (rest_above l.above (right_in (links_of l.n l.links) l.m))
