@@ -119,15 +119,11 @@ fn fill_rows(
 {
     let mut place = at;
     let mut above: u64 = 0;
-    loop {
-        let n = along::next_segment(nodes, c.nodes, above);
-        if n == 0 {
-            return place;
-        }
-        let h = Handle { packed: n };
+    while let Some(h) = along::next_segment(nodes, c.nodes, above) {
         place = fill_old(nodes, c, rules, steps, u, h, place, out);
-        above = n;
+        above = h.packed;
     }
+    place
 }
 
 fn fill_table(

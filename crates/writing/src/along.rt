@@ -1,23 +1,24 @@
 // Live nodes by rising id and live links in written order, one at a time: each search is handed the last one and finds the next.
 // Nothing is sorted, so that no room is asked for.
-ghost use Rattle.std.specs.Prelude.{◌*◌, ◌≤◌, ◌≡◌, true, false, length};
+ghost use Rattle.std.specs.Prelude.{IfSome, ◌*◌, ◌≤◌, ◌<◌, ◌≡◌, true, false, length};
 ghost use Rattle.kit.specs.Loops.{all};
 ghost use Rattle.handle.specs.Handle.{is_id};
 ghost use Rattle.store.specs.Graph.{nodes_of, links_of};
 ghost use Rattle.store.specs.Views.{live_node};
 ghost use Rattle.formed.specs.WellFormed.{links_once};
-ghost use Rattle.sides.specs.Sides.{next_above, bare};
+ghost use Rattle.sides.specs.Sides.{next_above, packed_of, bare};
 ghost use Rattle.writing.specs.GraphText.{live_segments, live_links};
 ghost use Rattle.writing.specs.Search.{next_after, sooner};
 
 use handle::{Edge, Handle};
 use store::{Counts, Link, Node};
 
-// The packed number of the next live node, forward; 0 where there is none. From the last node to the first, as `lowest` goes.
-pub fn next_segment(nodes: &[u64], count: usize, above: u64) -> u64
+// The next live node, forward, above a packed number. From the last node to the first, as `lowest` goes.
+pub fn next_segment(nodes: &[u64], count: usize, above: u64) -> Option<Handle>
     requires count_in_bounds { 4 * count ≤ length nodes.now }
     requires nodes_value { all (λ r. is_id r.id) (nodes_of count nodes.now) ≡ true }
-    ensures { result ≡ next_above above (live_segments (nodes_of count nodes.now)) }
+    ensures value { packed_of result ≡ next_above above (live_segments (nodes_of count nodes.now)) }
+    ensures some { IfSome result (λ h. 0 < h.packed) }
 {
     let mut best: u64 = 0;
     for i in (0..count).rev() {
@@ -27,7 +28,7 @@ pub fn next_segment(nodes: &[u64], count: usize, above: u64) -> u64
             best = sides::lower(above, h.packed, best);
         }
     }
-    best
+    sides::handle_of(best)
 }
 
 // The sooner of f, where it is written after e, and the first so far, which may be none.

@@ -54,15 +54,11 @@ fn fill_segments(nodes: &[u64], text: &[u8], c: Counts, at: usize, out: &mut [u8
 {
     let mut place = at;
     let mut above: u64 = 0;
-    loop {
-        let n = along::next_segment(nodes, c.nodes, above);
-        if n == 0 {
-            return place;
-        }
-        let h = Handle { packed: n };
+    while let Some(h) = along::next_segment(nodes, c.nodes, above) {
         place = fill_segment(nodes, text, c, h, place, out);
-        above = n;
+        above = h.packed;
     }
+    place
 }
 
 fn fill_link(e: Edge, at: usize, out: &mut [u8]) -> usize

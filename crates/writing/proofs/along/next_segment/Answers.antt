@@ -35,4 +35,4 @@ pub returns : goal.returns
 returns c =
     let a = c.args in
     let z : c.loop-i.i ≡ 0 = omega arith in
-    c.loop-i.invariant ∙ ap (from_slot a.above a.count a.nodes.now) z ∙ next-found a.above a.count a.nodes.now
+    record { value = c.handle_of.ensures.value ∙ c.loop-i.invariant ∙ ap (from_slot a.above a.count a.nodes.now) z ∙ next-found a.above a.count a.nodes.now; some = c.handle_of.ensures.some }

@@ -7,8 +7,8 @@ use Rattle.writing.specs.GraphText.{segment_line, live_segments}
 use Rattle.writing.proofs.Filling.{Filling}
 use Rattle.writing.proofs.graph.fill_segments.Given as goal
 
-abbrev pub invariant-loop-c : goal.invariant-loop-c
-invariant-loop-c l = Filling l.initial.out l.at (lines (segment_line (graph_of l.nodes l.text [] l.c)) (live_segments (nodes_of l.c.nodes l.nodes))) l.out l.place (lines (segment_line (graph_of l.nodes l.text [] l.c)) (rest_above l.above (live_segments (nodes_of l.c.nodes l.nodes))))
+abbrev pub invariant-loop-h : goal.invariant-loop-h
+invariant-loop-h l = Filling l.initial.out l.at (lines (segment_line (graph_of l.nodes l.text [] l.c)) (live_segments (nodes_of l.c.nodes l.nodes))) l.out l.place (lines (segment_line (graph_of l.nodes l.text [] l.c)) (rest_above l.above (live_segments (nodes_of l.c.nodes l.nodes))))
 
-abbrev pub decreases-loop-c : goal.decreases-loop-c
-decreases-loop-c l = length (rest_above l.above (live_segments (nodes_of l.c.nodes l.nodes)))
+abbrev pub decreases-loop-h : goal.decreases-loop-h
+decreases-loop-h l = length (rest_above l.above (live_segments (nodes_of l.c.nodes l.nodes)))
