@@ -20,7 +20,7 @@ use Rattle.store.specs.Graph.{Graph, handle, graph_of}
 use Rattle.store.specs.Views.{live_node}
 use Rattle.formed.specs.WellFormed.{room_for, good_graph, well_formed}
 use Rattle.sides.specs.Sides.{right_of, next_above}
-use Rattle.sides.proofs.Rising.{Sorted, sorted_nil, sorted_cons, rest_above, rest_all, some-step, none_end}
+use Rattle.sides.proofs.Rising.{Sorted, sorted_nil, sorted_cons, rest_above, rest_all, next-step, next_end}
 use Rattle.sides.proofs.Search.{side_sorted}
 use Rattle.sides.proofs.Sides.{side_number, good_number}
 use Rattle.groups.specs.Groups.{same_key, is_reverse, heads}
@@ -57,16 +57,16 @@ module _ (p : Handle → Bool) {xs : List Handle} (s : Sorted xs) (above at w : 
   result q = ap (λ (h : Handle). h.packed) (sym q ∙ i) ∙ first_left_lem p xs above
 
   pub along_end : w ≡ 0 → 0 ≡ next_above above (keep p xs)
-  along_end z = result (ap (first_or (handle 0) p) (none_end at xs (sym z ∙ e)))
+  along_end z = result (ap (first_or (handle 0) p) (next_end at xs (sym z ∙ e)))
 
   pub along_hit : 0 < w → p (handle w) ≡ true → w ≡ next_above above (keep p xs)
-  along_hit n t = result {h = handle w} (rw ((some-step at w s e n).rest, t))
+  along_hit n t = result {h = handle w} (rw ((next-step at w s e n).rest, t))
 
   pub along_miss : 0 < w → p (handle w) ≡ false → first_left p xs w ≡ first_left p xs above
-  along_miss n t = sym (rw ((some-step at w s e n).rest, t)) ∙ i
+  along_miss n t = sym (rw ((next-step at w s e n).rest, t)) ∙ i
 
   pub along_less : 0 < w → length (rest_above w xs) < length (rest_above at xs)
-  along_less n = rw (some-step at w s e n).rest (omega arith)
+  along_less n = rw (next-step at w s e n).rest (omega arith)
 
 -- what stands before another is lower
 sorted_before : (met : List Handle) (u : Handle) (us : List Handle) → Sorted (met ++ (u ∷ us)) → (m : Handle) → Memᴰ m met → m.packed < u.packed

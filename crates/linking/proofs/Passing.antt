@@ -23,7 +23,7 @@ use Rattle.store.proofs.Fields.{link_at, back_link}
 use Rattle.formed.specs.WellFormed.{unmarked_link}
 use Rattle.sides.specs.Sides.{right_ends, next_above}
 use Rattle.sides.specs.Search.{lowest}
-use Rattle.sides.proofs.Rising.{Step, rest_above, rising_sorted, rest_all, next-lowest, some-step, none_end}
+use Rattle.sides.proofs.Rising.{Step, rest_above, rising_sorted, rest_all, next-lowest, next-step, next_end}
 use Rattle.sides.proofs.Search.{lowest-append}
 use Rattle.split.proofs.Ends.{both_ends, both-written}
 use Rattle.merging.specs.Merging.{add_link, add_links, read_as}
@@ -88,7 +88,7 @@ module _ (m : Handle) where
   right-all rs t = rest_all 0 (right_in rs m) (λ u k. let h = named-right rs m t k in omega (arith, tests))
 
   pub right-next : (rs : List Link) (above y : ℕ) → y ≡ next_above above (right_in rs m) → 0 < y → Step above (right_in rs m) y
-  right-next rs above y e h = some-step above y (rising_sorted (lines (right_ends m) (keep unmarked_link rs))) e h
+  right-next rs above y e h = next-step above y (rising_sorted (lines (right_ends m) (keep unmarked_link rs))) e h
 
 -- links from x to m's neighbours above a number: what is left to add
 abbrev pub to_pass : Handle → Handle → ℕ → List Link → List Link
@@ -110,4 +110,4 @@ module _ (m x : Handle) (rs : List Link) (above : ℕ) where
 
   -- none is left
   pub pass_end : 0 ≡ next_above above (right_in rs m) → to_pass m x above rs ≡ rs
-  pass_end e = ap (λ (hs : List Handle). add_links x (map (read_as m x) hs) rs) (none_end above (right_in rs m) e)
+  pass_end e = ap (λ (hs : List Handle). add_links x (map (read_as m x) hs) rs) (next_end above (right_in rs m) e)

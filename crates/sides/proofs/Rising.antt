@@ -224,20 +224,13 @@ pub record Step (above : ℕ) (xs : List Handle) (n : ℕ) : Type 0 where
   pub higher : above < n
   pub rest : rest_above above xs ≡ handle n ∷ rest_above n xs
 
-pub next-step : (above : ℕ) {xs : List Handle} (n : ℕ) → Sorted xs → n ≡ next_above above xs → (n ≡ 0 → ⊥) → Step above xs n
+pub next-step : (above : ℕ) {xs : List Handle} (n : ℕ) → Sorted xs → n ≡ next_above above xs → 0 < n → Step above xs n
 next-step above {xs} n s e h =
-    let k : next_above above xs ≡ 0 → ⊥ = λ z. h (e ∙ z) in
+    let k : next_above above xs ≡ 0 → ⊥ = λ z. omega (arith, e, h, z) in
     record { higher = rw e ((next_is above s).member (omega (arith, k))).1; rest = rw e (rest_more above s k) }
 
-pub next_end : (above : ℕ) (xs : List Handle) (n : ℕ) → n ≡ next_above above xs → n ≡ 0 → rest_above above xs ≡ []
-next_end above xs n e z = rest_none above xs (sym e ∙ z)
-
--- the same where some node is the answer, and where none is
-pub some-step : (above : ℕ) {xs : List Handle} (n : ℕ) → Sorted xs → n ≡ next_above above xs → 0 < n → Step above xs n
-some-step above n s e h = next-step above n s e (λ z. omega (arith, h, z))
-
-pub none_end : (above : ℕ) (xs : List Handle) → 0 ≡ next_above above xs → rest_above above xs ≡ []
-none_end above xs e = next_end above xs 0 e refl
+pub next_end : (above : ℕ) (xs : List Handle) → 0 ≡ next_above above xs → rest_above above xs ≡ []
+next_end above xs e = rest_none above xs (sym e)
 
 -- a test of every member asks no order
 pub all-rising : (p : Handle → Bool) (xs : List Handle) → all p (rising xs) ≡ all p xs

@@ -126,21 +126,29 @@ fn count_side(nodes: &[u64], links: &[u64], c: Counts, left: bool, v: Handle) ->
     n
 }
 
-fn nth_side(nodes: &[u64], links: &[u64], c: Counts, left: bool, v: Handle, k: usize) -> u64
+fn nth_side(
+    nodes: &[u64],
+    links: &[u64],
+    c: Counts,
+    left: bool,
+    v: Handle,
+    k: usize,
+) -> Option<Handle>
     requires nodes_in_bounds { (4 * c.nodes ≤ length nodes.now) × (3 * c.links ≤ length links.now) }
     requires nodes_value { live_node 0 (nodes_of c.nodes nodes.now) ≡ false }
-    ensures { result ≡ nth_of k (side_of left (bare nodes.now links.now c) v) }
+    ensures value { packed_of result ≡ nth_of k (side_of left (bare nodes.now links.now c) v) }
+    ensures some { IfSome result (λ h. 0 < h.packed) }
 {
     let mut n: usize = 0;
     let mut above: u64 = 0;
     while let Some(u) = next_side(nodes, links, c, left, v, above) {
         if n == k {
-            return u.packed;
+            return Some(u);
         }
         n += 1;
         above = u.packed;
     }
-    0
+    None
 }
 
 // How many live neighbours v has on a side.
@@ -160,19 +168,21 @@ pub fn count_left(nodes: &[u64], links: &[u64], c: Counts, v: Handle) -> usize
     count_side(nodes, links, c, true, v)
 }
 
-// The packed number of its k-th, in rising order from 0; 0 past the last.
-pub fn nth_right(nodes: &[u64], links: &[u64], c: Counts, v: Handle, k: usize) -> u64
+// Its k-th, in rising order from 0.
+pub fn nth_right(nodes: &[u64], links: &[u64], c: Counts, v: Handle, k: usize) -> Option<Handle>
     requires nodes_in_bounds { (4 * c.nodes ≤ length nodes.now) × (3 * c.links ≤ length links.now) }
     requires nodes_value { live_node 0 (nodes_of c.nodes nodes.now) ≡ false }
-    ensures { result ≡ nth_of k (right_of (bare nodes.now links.now c) v) }
+    ensures value { packed_of result ≡ nth_of k (right_of (bare nodes.now links.now c) v) }
+    ensures some { IfSome result (λ h. 0 < h.packed) }
 {
     nth_side(nodes, links, c, false, v, k)
 }
 
-pub fn nth_left(nodes: &[u64], links: &[u64], c: Counts, v: Handle, k: usize) -> u64
+pub fn nth_left(nodes: &[u64], links: &[u64], c: Counts, v: Handle, k: usize) -> Option<Handle>
     requires nodes_in_bounds { (4 * c.nodes ≤ length nodes.now) × (3 * c.links ≤ length links.now) }
     requires nodes_value { live_node 0 (nodes_of c.nodes nodes.now) ≡ false }
-    ensures { result ≡ nth_of k (left_of (bare nodes.now links.now c) v) }
+    ensures value { packed_of result ≡ nth_of k (left_of (bare nodes.now links.now c) v) }
+    ensures some { IfSome result (λ h. 0 < h.packed) }
 {
     nth_side(nodes, links, c, true, v, k)
 }

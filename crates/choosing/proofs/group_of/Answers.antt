@@ -6,7 +6,7 @@ use Rattle.kit.specs.Loops.{first_or}
 use Rattle.handle.specs.declared.Handle.{Handle}
 use Rattle.store.specs.Graph.{Graph, graph_of, handle}
 use Rattle.sides.specs.Sides.{right_of}
-use Rattle.sides.proofs.Rising.{Step, some-step, none_end}
+use Rattle.sides.proofs.Rising.{Step, next-step, next_end}
 use Rattle.groups.specs.Groups.{group_of}
 use Rattle.groups.specs.Search.{heads_of}
 use Rattle.groups.proofs.Along.{heads-all, heads_sorted}
@@ -28,7 +28,7 @@ pub returns : goal.returns
 returns c =
     let a = c.args in
     let g : Graph = graph_of a.nodes.now a.text.now a.links.now a.c in
-    turn_end g a.protected.now (ap (map (group_of g (right_of g a.v))) (none_end c.loop-u.above (heads_of g a.v) c.in_default.ensures.value)) c.loop-u.invariant.1
+    turn_end g a.protected.now (ap (map (group_of g (right_of g a.v))) (next_end c.loop-u.above (heads_of g a.v) c.in_default.ensures.value)) c.loop-u.invariant.1
 
 pub try_group-n-requires : goal.try_group-n-requires
 try_group-n-requires c = (c.requires.0, omega (arith, c.requires.1, c.loop-u.invariant.0))
@@ -40,7 +40,7 @@ pub returns-then-n-ne0 : goal.returns-then-n-ne0
 returns-then-n-ne0 c =
     let step : Step c.loop-u.above (heads_of (graph_of c.args.nodes.now c.args.text.now c.args.links.now c.args.c) c.args.v) c.in-Some.u.packed =
     let a = c.args in
-    some-step c.loop-u.above c.in-Some.u.packed (heads_sorted (graph_of a.nodes.now a.text.now a.links.now a.c) a.v) c.in-Some.ensures.value c.in-Some.ensures.some
+    next-step c.loop-u.above c.in-Some.u.packed (heads_sorted (graph_of a.nodes.now a.text.now a.links.now a.c) a.v) c.in-Some.ensures.value c.in-Some.ensures.some
     in
     let a = c.args in
     let g : Graph = graph_of a.nodes.now a.text.now a.links.now a.c in
@@ -51,7 +51,7 @@ pub loop-u-smaller : goal.loop-u-smaller
 loop-u-smaller c =
     let step : Step c.loop-u.above (heads_of (graph_of c.args.nodes.now c.args.text.now c.args.links.now c.args.c) c.args.v) c.in-Some.u.packed =
     let a = c.args in
-    some-step c.loop-u.above c.in-Some.u.packed (heads_sorted (graph_of a.nodes.now a.text.now a.links.now a.c) a.v) c.in-Some.ensures.value c.in-Some.ensures.some
+    next-step c.loop-u.above c.in-Some.u.packed (heads_sorted (graph_of a.nodes.now a.text.now a.links.now a.c) a.v) c.in-Some.ensures.value c.in-Some.ensures.some
     in
     let s = step in omega (arith, ap length s.rest)
 
@@ -59,7 +59,7 @@ pub loop-u-preserved : goal.loop-u-preserved
 loop-u-preserved c =
     let step : Step c.loop-u.above (heads_of (graph_of c.args.nodes.now c.args.text.now c.args.links.now c.args.c) c.args.v) c.in-Some.u.packed =
     let a = c.args in
-    some-step c.loop-u.above c.in-Some.u.packed (heads_sorted (graph_of a.nodes.now a.text.now a.links.now a.c) a.v) c.in-Some.ensures.value c.in-Some.ensures.some
+    next-step c.loop-u.above c.in-Some.u.packed (heads_sorted (graph_of a.nodes.now a.text.now a.links.now a.c) a.v) c.in-Some.ensures.value c.in-Some.ensures.some
     in
     let a = c.args in
     let g : Graph = graph_of a.nodes.now a.text.now a.links.now a.c in

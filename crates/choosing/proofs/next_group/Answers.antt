@@ -6,7 +6,7 @@ use Rattle.kit.specs.Loops.{first_or, lines}
 use Rattle.handle.specs.declared.Handle.{Handle}
 use Rattle.store.specs.Graph.{Graph, nodes_of, graph_of, handle}
 use Rattle.formed.proofs.Says.{formed_room}
-use Rattle.sides.proofs.Rising.{rest_above, Step, some-step, none_end}
+use Rattle.sides.proofs.Rising.{rest_above, Step, next-step, next_end}
 use Rattle.groups.specs.Groups.{groups_of}
 use Rattle.choosing.specs.Scan.{scan_order, must_collapse}
 use Rattle.choosing.proofs.Along.{scan_sorted, formed_ids, scan_all}
@@ -31,7 +31,7 @@ pub returns : goal.returns
 returns c =
     let a = c.args in
     let g : Graph = graph_of a.nodes.now a.text.now a.links.now a.c in
-    turn_end g a.protected.now (ap (lines (groups_of g)) (none_end c.loop-v.above (scan_order g.nodes) c.in_default.ensures.value)) c.loop-v.invariant.1
+    turn_end g a.protected.now (ap (lines (groups_of g)) (next_end c.loop-v.above (scan_order g.nodes) c.in_default.ensures.value)) c.loop-v.invariant.1
 
 pub group_of-n-requires : goal.group_of-n-requires
 group_of-n-requires c = (c.requires.0, omega (arith, c.requires.1, c.loop-v.invariant.0))
@@ -43,7 +43,7 @@ pub returns-then-n-ne0 : goal.returns-then-n-ne0
 returns-then-n-ne0 c =
     let step : Step c.loop-v.above (scan_order (nodes_of c.args.c.nodes c.args.nodes.now)) c.in-Some.v.packed =
     let a = c.args in
-    some-step c.loop-v.above c.in-Some.v.packed (scan_sorted (nodes_of a.c.nodes a.nodes.now)) c.in-Some.ensures.value c.in-Some.ensures.some
+    next-step c.loop-v.above c.in-Some.v.packed (scan_sorted (nodes_of a.c.nodes a.nodes.now)) c.in-Some.ensures.value c.in-Some.ensures.some
     in
     let a = c.args in
     let g : Graph = graph_of a.nodes.now a.text.now a.links.now a.c in
@@ -54,7 +54,7 @@ pub loop-v-smaller : goal.loop-v-smaller
 loop-v-smaller c =
     let step : Step c.loop-v.above (scan_order (nodes_of c.args.c.nodes c.args.nodes.now)) c.in-Some.v.packed =
     let a = c.args in
-    some-step c.loop-v.above c.in-Some.v.packed (scan_sorted (nodes_of a.c.nodes a.nodes.now)) c.in-Some.ensures.value c.in-Some.ensures.some
+    next-step c.loop-v.above c.in-Some.v.packed (scan_sorted (nodes_of a.c.nodes a.nodes.now)) c.in-Some.ensures.value c.in-Some.ensures.some
     in
     let s = step in omega (arith, ap length s.rest)
 
@@ -62,7 +62,7 @@ pub loop-v-preserved : goal.loop-v-preserved
 loop-v-preserved c =
     let step : Step c.loop-v.above (scan_order (nodes_of c.args.c.nodes c.args.nodes.now)) c.in-Some.v.packed =
     let a = c.args in
-    some-step c.loop-v.above c.in-Some.v.packed (scan_sorted (nodes_of a.c.nodes a.nodes.now)) c.in-Some.ensures.value c.in-Some.ensures.some
+    next-step c.loop-v.above c.in-Some.v.packed (scan_sorted (nodes_of a.c.nodes a.nodes.now)) c.in-Some.ensures.value c.in-Some.ensures.some
     in
     let a = c.args in
     let g : Graph = graph_of a.nodes.now a.text.now a.links.now a.c in

@@ -8,7 +8,7 @@ use lib.ListN.{length, set, length-set}
 use Rattle.handle.specs.declared.Handle.{Handle}
 use Rattle.handle.specs.Handle.{dir_of}
 use Rattle.store.specs.Graph.{Graph, graph_of, handle}
-use Rattle.sides.proofs.Rising.{rest_above, Step, some-step, none_end}
+use Rattle.sides.proofs.Rising.{rest_above, Step, next-step, next_end}
 use Rattle.groups.specs.Groups.{same_key, is_reverse}
 use Rattle.groups.specs.Search.{of_key}
 use Rattle.groups.proofs.Along.{part-all, key_sorted}
@@ -67,7 +67,7 @@ pub returns : goal.returns
 returns c =
     let a = c.args in
     let ms : List Handle = of_key (graph_of a.nodes.now a.text.now a.links.now a.c) a.v a.u in
-    let e = none_end c.loop-w.above ms c.in_default.ensures.value in
+    let e = next_end c.loop-w.above ms c.in_default.ensures.value in
     record {
       place = omega (arith, ap (λ (r : List Handle). length (ups r)) e, c.loop-w.invariant.at_high, length-written ms);
       bytes = sym (ap (placed c.loop-w.members a.base c.loop-w.high) e) ∙ c.loop-w.invariant.todo;
@@ -77,7 +77,7 @@ pub place-at-requires : goal.place-at-requires
 place-at-requires c =
     let step : Step c.loop-w.above ((of_key (graph_of c.args.nodes.now c.args.text.now c.args.links.now c.args.c) c.args.v c.args.u)) c.in-Some.w.packed =
     let a = c.args in
-    some-step c.loop-w.above c.in-Some.w.packed (key_sorted (graph_of a.nodes.now a.text.now a.links.now a.c) a.v a.u) c.in-Some.ensures.value c.in-Some.ensures.some
+    next-step c.loop-w.above c.in-Some.w.packed (key_sorted (graph_of a.nodes.now a.text.now a.links.now a.c) a.v a.u) c.in-Some.ensures.value c.in-Some.ensures.some
     in
     let a = c.args in
     omega (arith, c.direction-direction.ensures, (one ((of_key (graph_of c.args.nodes.now c.args.text.now c.args.links.now c.args.c) c.args.v c.args.u)) a.base a.members.now c.loop-w.members c.loop-w.low c.loop-w.high c.loop-w.above c.in-Some.w.packed c.loop-w.invariant (step)).room)
@@ -86,7 +86,7 @@ pub offset_bounds-members-at : goal.offset_bounds-members-at
 offset_bounds-members-at c =
     let step : Step c.loop-w.above ((of_key (graph_of c.args.nodes.now c.args.text.now c.args.links.now c.args.c) c.args.v c.args.u)) c.in-Some.w.packed =
     let a = c.args in
-    some-step c.loop-w.above c.in-Some.w.packed (key_sorted (graph_of a.nodes.now a.text.now a.links.now a.c) a.v a.u) c.in-Some.ensures.value c.in-Some.ensures.some
+    next-step c.loop-w.above c.in-Some.w.packed (key_sorted (graph_of a.nodes.now a.text.now a.links.now a.c) a.v a.u) c.in-Some.ensures.value c.in-Some.ensures.some
     in
     let a = c.args in
     omega (arith, inside ((of_key (graph_of c.args.nodes.now c.args.text.now c.args.links.now c.args.c) c.args.v c.args.u)) a.base a.members.now c.loop-w.members c.loop-w.low c.loop-w.high c.loop-w.above c.in-Some.w.packed c.loop-w.invariant (step) c.direction-direction.result c.place-at.result c.direction-direction.ensures c.place-at.ensures, c.loop-w.invariant.size, c.requires.u_in_bounds, c.well_formed)
@@ -95,7 +95,7 @@ pub bounds-members-at : goal.bounds-members-at
 bounds-members-at c =
     let step : Step c.loop-w.above ((of_key (graph_of c.args.nodes.now c.args.text.now c.args.links.now c.args.c) c.args.v c.args.u)) c.in-Some.w.packed =
     let a = c.args in
-    some-step c.loop-w.above c.in-Some.w.packed (key_sorted (graph_of a.nodes.now a.text.now a.links.now a.c) a.v a.u) c.in-Some.ensures.value c.in-Some.ensures.some
+    next-step c.loop-w.above c.in-Some.w.packed (key_sorted (graph_of a.nodes.now a.text.now a.links.now a.c) a.v a.u) c.in-Some.ensures.value c.in-Some.ensures.some
     in
     let a = c.args in
     omega (arith, inside ((of_key (graph_of c.args.nodes.now c.args.text.now c.args.links.now c.args.c) c.args.v c.args.u)) a.base a.members.now c.loop-w.members c.loop-w.low c.loop-w.high c.loop-w.above c.in-Some.w.packed c.loop-w.invariant (step) c.direction-direction.result c.place-at.result c.direction-direction.ensures c.place-at.ensures, c.loop-w.invariant.size, c.requires.u_in_bounds)
@@ -104,7 +104,7 @@ pub overflow_sub-low : goal.overflow_sub-low
 overflow_sub-low c =
     let step : Step c.loop-w.above ((of_key (graph_of c.args.nodes.now c.args.text.now c.args.links.now c.args.c) c.args.v c.args.u)) c.in-Some.w.packed =
     let a = c.args in
-    some-step c.loop-w.above c.in-Some.w.packed (key_sorted (graph_of a.nodes.now a.text.now a.links.now a.c) a.v a.u) c.in-Some.ensures.value c.in-Some.ensures.some
+    next-step c.loop-w.above c.in-Some.w.packed (key_sorted (graph_of a.nodes.now a.text.now a.links.now a.c) a.v a.u) c.in-Some.ensures.value c.in-Some.ensures.some
     in
     let a = c.args in
     omega (arith, c.direction-direction.ensures, (one ((of_key (graph_of c.args.nodes.now c.args.text.now c.args.links.now c.args.c) c.args.v c.args.u)) a.base a.members.now c.loop-w.members c.loop-w.low c.loop-w.high c.loop-w.above c.in-Some.w.packed c.loop-w.invariant (step)).room)
@@ -113,7 +113,7 @@ pub overflow_add-high : goal.overflow_add-high
 overflow_add-high c =
     let step : Step c.loop-w.above ((of_key (graph_of c.args.nodes.now c.args.text.now c.args.links.now c.args.c) c.args.v c.args.u)) c.in-Some.w.packed =
     let a = c.args in
-    some-step c.loop-w.above c.in-Some.w.packed (key_sorted (graph_of a.nodes.now a.text.now a.links.now a.c) a.v a.u) c.in-Some.ensures.value c.in-Some.ensures.some
+    next-step c.loop-w.above c.in-Some.w.packed (key_sorted (graph_of a.nodes.now a.text.now a.links.now a.c) a.v a.u) c.in-Some.ensures.value c.in-Some.ensures.some
     in
     let a = c.args in
     omega (arith, (next ((of_key (graph_of c.args.nodes.now c.args.text.now c.args.links.now c.args.c) c.args.v c.args.u)) a.base a.members.now c.loop-w.members c.loop-w.low c.loop-w.high c.loop-w.above c.in-Some.w.packed c.loop-w.invariant (step) c.direction-direction.result c.place-at.result c.direction-direction.ensures c.place-at.ensures).at_high, c.requires.u_in_bounds, c.well_formed)
@@ -122,7 +122,7 @@ pub loop-w-smaller : goal.loop-w-smaller
 loop-w-smaller c =
     let step : Step c.loop-w.above ((of_key (graph_of c.args.nodes.now c.args.text.now c.args.links.now c.args.c) c.args.v c.args.u)) c.in-Some.w.packed =
     let a = c.args in
-    some-step c.loop-w.above c.in-Some.w.packed (key_sorted (graph_of a.nodes.now a.text.now a.links.now a.c) a.v a.u) c.in-Some.ensures.value c.in-Some.ensures.some
+    next-step c.loop-w.above c.in-Some.w.packed (key_sorted (graph_of a.nodes.now a.text.now a.links.now a.c) a.v a.u) c.in-Some.ensures.value c.in-Some.ensures.some
     in
     let s = step in omega (arith, ap length s.rest)
 
@@ -130,7 +130,7 @@ pub loop-w-preserved : goal.loop-w-preserved
 loop-w-preserved c =
     let step : Step c.loop-w.above ((of_key (graph_of c.args.nodes.now c.args.text.now c.args.links.now c.args.c) c.args.v c.args.u)) c.in-Some.w.packed =
     let a = c.args in
-    some-step c.loop-w.above c.in-Some.w.packed (key_sorted (graph_of a.nodes.now a.text.now a.links.now a.c) a.v a.u) c.in-Some.ensures.value c.in-Some.ensures.some
+    next-step c.loop-w.above c.in-Some.w.packed (key_sorted (graph_of a.nodes.now a.text.now a.links.now a.c) a.v a.u) c.in-Some.ensures.value c.in-Some.ensures.some
     in
     let a = c.args in
     next ((of_key (graph_of c.args.nodes.now c.args.text.now c.args.links.now c.args.c) c.args.v c.args.u)) a.base a.members.now c.loop-w.members c.loop-w.low c.loop-w.high c.loop-w.above c.in-Some.w.packed c.loop-w.invariant (step) c.direction-direction.result c.place-at.result c.direction-direction.ensures c.place-at.ensures

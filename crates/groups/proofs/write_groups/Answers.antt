@@ -10,7 +10,7 @@ use Rattle.kit.proofs.Writes.{sets-front, put-left}
 use Rattle.handle.specs.declared.Handle.{Handle}
 use Rattle.store.specs.Graph.{Graph, graph_of, handle}
 use Rattle.sides.specs.Sides.{right_of}
-use Rattle.sides.proofs.Rising.{rest_above, Step, some-step, none_end}
+use Rattle.sides.proofs.Rising.{rest_above, Step, next-step, next_end}
 use Rattle.groups.specs.Groups.{group_of, groups_of, members_of, ends_from, numbers, over}
 use Rattle.groups.specs.Search.{of_key, heads_of}
 use Rattle.groups.proofs.Along.{heads-all, heads_sorted}
@@ -97,13 +97,13 @@ pub returns : goal.returns
 returns c =
     let a = c.args in
     let g : Graph = graph_of a.nodes.now a.text.now a.links.now a.c in
-    let z = none_end c.loop-u.above (heads_of g a.v) c.in_default.ensures.value in record { members_after = members_done g a.v a.members.now a.ends.now c.loop-u.members c.loop-u.ends c.loop-u.n c.loop-u.at c.loop-u.above c.loop-u.invariant z c.requires.v_in_bounds.0; ends_after = ends-done g a.v a.members.now a.ends.now c.loop-u.members c.loop-u.ends c.loop-u.n c.loop-u.at c.loop-u.above c.loop-u.invariant z c.requires.v_in_bounds.1 }
+    let z = next_end c.loop-u.above (heads_of g a.v) c.in_default.ensures.value in record { members_after = members_done g a.v a.members.now a.ends.now c.loop-u.members c.loop-u.ends c.loop-u.n c.loop-u.at c.loop-u.above c.loop-u.invariant z c.requires.v_in_bounds.0; ends_after = ends-done g a.v a.members.now a.ends.now c.loop-u.members c.loop-u.ends c.loop-u.n c.loop-u.at c.loop-u.above c.loop-u.invariant z c.requires.v_in_bounds.1 }
 
 pub write_group-at-requires : goal.write_group-at-requires
 write_group-at-requires c =
     let step : Step c.loop-u.above (heads_of (graph_of c.args.nodes.now c.args.text.now c.args.links.now c.args.c) c.args.v) c.in-Some.u.packed =
     let a = c.args in
-    some-step c.loop-u.above c.in-Some.u.packed (heads_sorted (graph_of a.nodes.now a.text.now a.links.now a.c) a.v) c.in-Some.ensures.value c.in-Some.ensures.some
+    next-step c.loop-u.above c.in-Some.u.packed (heads_sorted (graph_of a.nodes.now a.text.now a.links.now a.c) a.v) c.in-Some.ensures.value c.in-Some.ensures.some
     in
     let a = c.args in
     let g : Graph = graph_of a.nodes.now a.text.now a.links.now a.c in
@@ -113,7 +113,7 @@ pub offset_bounds-ends-n : goal.offset_bounds-ends-n
 offset_bounds-ends-n c =
     let step : Step c.loop-u.above (heads_of (graph_of c.args.nodes.now c.args.text.now c.args.links.now c.args.c) c.args.v) c.in-Some.u.packed =
     let a = c.args in
-    some-step c.loop-u.above c.in-Some.u.packed (heads_sorted (graph_of a.nodes.now a.text.now a.links.now a.c) a.v) c.in-Some.ensures.value c.in-Some.ensures.some
+    next-step c.loop-u.above c.in-Some.u.packed (heads_sorted (graph_of a.nodes.now a.text.now a.links.now a.c) a.v) c.in-Some.ensures.value c.in-Some.ensures.some
     in
     let a = c.args in
     let g : Graph = graph_of a.nodes.now a.text.now a.links.now a.c in
@@ -123,7 +123,7 @@ pub bounds-ends-n : goal.bounds-ends-n
 bounds-ends-n c =
     let step : Step c.loop-u.above (heads_of (graph_of c.args.nodes.now c.args.text.now c.args.links.now c.args.c) c.args.v) c.in-Some.u.packed =
     let a = c.args in
-    some-step c.loop-u.above c.in-Some.u.packed (heads_sorted (graph_of a.nodes.now a.text.now a.links.now a.c) a.v) c.in-Some.ensures.value c.in-Some.ensures.some
+    next-step c.loop-u.above c.in-Some.u.packed (heads_sorted (graph_of a.nodes.now a.text.now a.links.now a.c) a.v) c.in-Some.ensures.value c.in-Some.ensures.some
     in
     let a = c.args in
     let g : Graph = graph_of a.nodes.now a.text.now a.links.now a.c in
@@ -133,7 +133,7 @@ pub overflow_add-n : goal.overflow_add-n
 overflow_add-n c =
     let step : Step c.loop-u.above (heads_of (graph_of c.args.nodes.now c.args.text.now c.args.links.now c.args.c) c.args.v) c.in-Some.u.packed =
     let a = c.args in
-    some-step c.loop-u.above c.in-Some.u.packed (heads_sorted (graph_of a.nodes.now a.text.now a.links.now a.c) a.v) c.in-Some.ensures.value c.in-Some.ensures.some
+    next-step c.loop-u.above c.in-Some.u.packed (heads_sorted (graph_of a.nodes.now a.text.now a.links.now a.c) a.v) c.in-Some.ensures.value c.in-Some.ensures.some
     in
     let a = c.args in
     let g : Graph = graph_of a.nodes.now a.text.now a.links.now a.c in
@@ -143,7 +143,7 @@ pub loop-u-smaller : goal.loop-u-smaller
 loop-u-smaller c =
     let step : Step c.loop-u.above (heads_of (graph_of c.args.nodes.now c.args.text.now c.args.links.now c.args.c) c.args.v) c.in-Some.u.packed =
     let a = c.args in
-    some-step c.loop-u.above c.in-Some.u.packed (heads_sorted (graph_of a.nodes.now a.text.now a.links.now a.c) a.v) c.in-Some.ensures.value c.in-Some.ensures.some
+    next-step c.loop-u.above c.in-Some.u.packed (heads_sorted (graph_of a.nodes.now a.text.now a.links.now a.c) a.v) c.in-Some.ensures.value c.in-Some.ensures.some
     in
     let s = step in omega (arith, ap length s.rest)
 
@@ -151,7 +151,7 @@ pub loop-u-preserved : goal.loop-u-preserved
 loop-u-preserved c =
     let step : Step c.loop-u.above (heads_of (graph_of c.args.nodes.now c.args.text.now c.args.links.now c.args.c) c.args.v) c.in-Some.u.packed =
     let a = c.args in
-    some-step c.loop-u.above c.in-Some.u.packed (heads_sorted (graph_of a.nodes.now a.text.now a.links.now a.c) a.v) c.in-Some.ensures.value c.in-Some.ensures.some
+    next-step c.loop-u.above c.in-Some.u.packed (heads_sorted (graph_of a.nodes.now a.text.now a.links.now a.c) a.v) c.in-Some.ensures.value c.in-Some.ensures.some
     in
     let a = c.args in
     let g : Graph = graph_of a.nodes.now a.text.now a.links.now a.c in

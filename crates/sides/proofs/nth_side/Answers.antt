@@ -6,7 +6,7 @@ use Rattle.kit.proofs.Bools.{tests}
 use Rattle.handle.specs.declared.Handle.{Handle}
 use Rattle.sides.specs.Sides.{bare, nth_of}
 use Rattle.sides.specs.Search.{side_of}
-use Rattle.sides.proofs.Rising.{rest_all, some-step, none_end}
+use Rattle.sides.proofs.Rising.{rest_all, next-step, next_end}
 use Rattle.sides.proofs.Search.{side_sorted}
 use Rattle.sides.proofs.Sides.{side_number}
 use Rattle.sides.proofs.nth_side.Goals as goal
@@ -25,21 +25,21 @@ loop-u-init c =
     let z : a.k - 0 ≡ a.k = omega arith in
     (omega arith, rw (rest_all 0 (side_of a.left g a.v) (side_number a.left g a.v c.requires.nodes_value), z))
 
-pub returns-then-n-k : goal.returns-then-n-k
-returns-then-n-k c =
+pub returns-then-n-k-clause-value : goal.returns-then-n-k-clause-value
+returns-then-n-k-clause-value c =
     let a = c.args in
-    let s = some-step c.loop-u.above c.in-Some.u.packed (side_sorted a.left (bare a.nodes.now a.links.now a.c) a.v) c.in-Some.ensures.value c.in-Some.ensures.some in
+    let s = next-step c.loop-u.above c.in-Some.u.packed (side_sorted a.left (bare a.nodes.now a.links.now a.c) a.v) c.in-Some.ensures.value c.in-Some.ensures.some in
     sym (here c.loop-u.n a.k c.if-n-k.true s.rest) ∙ c.loop-u.invariant.1
 
-pub returns : goal.returns
-returns c =
+pub returns-clause-value : goal.returns-clause-value
+returns-clause-value c =
     let a = c.args in
     let xs : List Handle = side_of a.left (bare a.nodes.now a.links.now a.c) a.v in
-    sym (ap (nth_of (a.k - c.loop-u.n)) (none_end c.loop-u.above xs c.in_default.ensures.value)) ∙ c.loop-u.invariant.1
+    sym (ap (nth_of (a.k - c.loop-u.n)) (next_end c.loop-u.above xs c.in_default.ensures.value)) ∙ c.loop-u.invariant.1
 
 pub loop-u-preserved : goal.loop-u-preserved
 loop-u-preserved c =
     let a = c.args in
     let h : c.loop-u.n < a.k = omega (arith, tests) in
-    let s = some-step c.loop-u.above c.in-Some.u.packed (side_sorted a.left (bare a.nodes.now a.links.now a.c) a.v) c.in-Some.ensures.value c.in-Some.ensures.some in
+    let s = next-step c.loop-u.above c.in-Some.u.packed (side_sorted a.left (bare a.nodes.now a.links.now a.c) a.v) c.in-Some.ensures.value c.in-Some.ensures.some in
     (omega arith, sym (past c.loop-u.n a.k h s.rest) ∙ c.loop-u.invariant.1)
