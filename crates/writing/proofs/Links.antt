@@ -125,11 +125,11 @@ pub record LinkStep (e : Edge) (xs : List Link) (f : Edge) : Type 0 where
   pub stands : Memᴰ this xs
   pub rest : rest_after e xs ≡ this ∷ rest_after f xs
 
-pub link-step : (e : Edge) {xs : List Link} (f : Edge) → Written xs → f ≡ next_after e xs → (f.from.packed ≡ 0 → ⊥) → LinkStep e xs f
-link-step e f written_nil q h = absurd (h (ap (λ (x : Edge). x.from.packed) q))
+pub link-step : (e : Edge) {xs : List Link} (f : Edge) → Written xs → f ≡ next_after e xs → 0 < f.from.packed → LinkStep e xs f
+link-step e f written_nil q h = absurd (omega (arith, h, ap (λ (x : Edge). x.from.packed) q))
 link-step e f (written_cons {x = y} {xs = ys} low s) q h = by (after e y) refl q (link-step e f s)
   where
-    by : (b : Bool) → after e y ≡ b → f ≡ ends (cond b y (first_or (link no_ends 0) (after e) ys)) → (f ≡ next_after e ys → (f.from.packed ≡ 0 → ⊥) → LinkStep e ys f) → LinkStep e (y ∷ ys) f
+    by : (b : Bool) → after e y ≡ b → f ≡ ends (cond b y (first_or (link no_ends 0) (after e) ys)) → (f ≡ next_after e ys → 0 < f.from.packed → LinkStep e ys f) → LinkStep e (y ∷ ys) f
     by true t p go =
         let mine : rest_after (ends y) (y ∷ ys) ≡ ys = rw (not_true_false (edge_before (ends y) (ends y)) (before_irrefl (ends y))) (keep_all (after (ends y)) ys low) in
         record {
@@ -149,13 +149,22 @@ link-step e f (written_cons {x = y} {xs = ys} low s) q h = by (after e y) refl q
         }
 
 -- and its end
-pub link_end_lem : (e : Edge) (xs : List Link) (f : Edge) → Started xs → f ≡ next_after e xs → f.from.packed ≡ 0 → rest_after e xs ≡ []
-link_end_lem e [] f some q z = refl
-link_end_lem e (y ∷ ys) f some q z = by (after e y) q (link_end_lem e ys f (λ u m. some u (Memᴰ.tail m)))
+pub link_end_lem : (e : Edge) (xs : List Link) → Started xs → no_ends ≡ next_after e xs → rest_after e xs ≡ []
+link_end_lem e [] some q = refl
+link_end_lem e (y ∷ ys) some q = by (after e y) q (link_end_lem e ys (λ u m. some u (Memᴰ.tail m)))
   where
-    by : (b : Bool) → f ≡ ends (cond b y (first_or (link no_ends 0) (after e) ys)) → (f ≡ next_after e ys → f.from.packed ≡ 0 → rest_after e ys ≡ []) → cond b (y ∷ rest_after e ys) (rest_after e ys) ≡ []
+    by : (b : Bool) → no_ends ≡ ends (cond b y (first_or (link no_ends 0) (after e) ys)) → (no_ends ≡ next_after e ys → rest_after e ys ≡ []) → cond b (y ∷ rest_after e ys) (rest_after e ys) ≡ []
     by true p go = absurd (omega (arith, some y (Memᴰ.head refl), ap (λ (x : Edge). x.from.packed) p))
-    by false p go = go p z
+    by false p go = go p
+
+-- an end with no node is no link's
+pub no_link : (e : Edge) (xs : List Link) → Started xs → (next_after e xs).from.packed ≡ 0 → no_ends ≡ next_after e xs
+no_link e [] some z = refl
+no_link e (y ∷ ys) some z = by (after e y) z (no_link e ys (λ u m. some u (Memᴰ.tail m)))
+  where
+    by : (b : Bool) → (ends (cond b y (first_or (link no_ends 0) (after e) ys))).from.packed ≡ 0 → ((next_after e ys).from.packed ≡ 0 → no_ends ≡ next_after e ys) → no_ends ≡ ends (cond b y (first_or (link no_ends 0) (after e) ys))
+    by true p go = absurd (omega (arith, some y (Memᴰ.head refl), p))
+    by false p go = go p
 
 -- the line of the one that was found, and then the lines of those left
 pub link_lines_lem : {e : Edge} {xs : List Link} {f : Edge} → LinkStep e xs f → lines link_line (rest_after e xs) ≡ link_line (link f 0) ++ lines link_line (rest_after f xs)

@@ -1,5 +1,5 @@
 -- What the code's search keeps, the first link so far over links that stand in no order.
-use Rattle.std.specs.Prelude.{cond, ◌&&◌, ◌||◌, List, eqb}
+use Rattle.std.specs.Prelude.{cond, ◌&&◌, ◌||◌, List, Option, Some, None, eqb}
 use Rattle.kit.specs.Loops.{first_or}
 use Rattle.handle.specs.declared.Edge.{Edge}
 use Rattle.handle.specs.Edge.{edge, edge_before}
@@ -9,6 +9,11 @@ use Rattle.store.specs.declared.Link.{Link}
 -- no link: no node has id 0
 abbrev pub no_ends : Edge
 no_ends = edge (handle 0) (handle 0)
+
+-- the ends that were found; none are two zeros
+abbrev pub ends_of : Option Edge → Edge
+ends_of None = no_ends
+ends_of (Some e) = e
 
 -- of links in written order the first that is written after e, by its ends
 abbrev pub next_after : Edge → List Link → Edge

@@ -8,7 +8,7 @@ ghost use Rattle.store.specs.Views.{live_node};
 ghost use Rattle.formed.specs.WellFormed.{links_once};
 ghost use Rattle.sides.specs.Sides.{next_above, packed_of, bare};
 ghost use Rattle.writing.specs.GraphText.{live_segments, live_links};
-ghost use Rattle.writing.specs.Search.{next_after, sooner};
+ghost use Rattle.writing.specs.Search.{ends_of, next_after, sooner};
 
 use handle::{Edge, Handle};
 use store::{Counts, Link, Node};
@@ -48,11 +48,12 @@ fn sooner(e: Edge, f: Edge, best: Edge) -> Edge
     best
 }
 
-// The ends of the next live link; two zeros where there is none. Only a link that is sooner is asked whether it is live.
-pub fn next_link(nodes: &[u64], links: &[u64], c: Counts, last: Edge) -> Edge
+// The ends of the next live link. Only a link that is sooner is asked whether it is live.
+pub fn next_link(nodes: &[u64], links: &[u64], c: Counts, last: Edge) -> Option<Edge>
     requires nodes_in_bounds { (4 * c.nodes ≤ length nodes.now) × (3 * c.links ≤ length links.now) }
     requires nodes_value { (live_node 0 (nodes_of c.nodes nodes.now) ≡ false) × (links_once (links_of c.links links.now) ≡ true) }
-    ensures { result ≡ next_after last (live_links (bare nodes.now links.now c)) }
+    ensures value { ends_of result ≡ next_after last (live_links (bare nodes.now links.now c)) }
+    ensures some { IfSome result (λ e. 0 < e.from.packed) }
 {
     let mut best = Edge {
         from: Handle { packed: 0 },
@@ -65,5 +66,9 @@ pub fn next_link(nodes: &[u64], links: &[u64], c: Counts, last: Edge) -> Edge
             best = found;
         }
     }
-    best
+    let from = best.from;
+    if from.packed == 0 {
+        return None;
+    }
+    Some(best)
 }

@@ -82,15 +82,11 @@ fn fill_links(nodes: &[u64], links: &[u64], c: Counts, at: usize, out: &mut [u8]
         from: Handle { packed: 0 },
         to: Handle { packed: 0 },
     };
-    loop {
-        let e = along::next_link(nodes, links, c, last);
-        let from = e.from;
-        if from.packed == 0 {
-            return place;
-        }
+    while let Some(e) = along::next_link(nodes, links, c, last) {
         place = fill_link(e, place, out);
         last = e;
     }
+    place
 }
 
 fn fill_graph(nodes: &[u64], text: &[u8], links: &[u64], c: Counts, out: &mut [u8]) -> usize

@@ -10,40 +10,40 @@ use Rattle.writing.proofs.Filling.{filling_none, filling_fits, filling_next, fil
 use Rattle.writing.proofs.Links.{rest_after, rest-links, live_started, live_written, LinkStep, link-step, link_end_lem, link_lines_lem}
 use Rattle.writing.proofs.graph.fill_links.Goals as goal
 
-pub loop-c-init : goal.loop-c-init
-loop-c-init c =
+pub loop-e-init : goal.loop-e-init
+loop-e-init c =
     let a = c.args in
     rw (rest-links (live_links (bare a.nodes.now a.links.now a.c)) (live_started (nodes_of a.c.nodes a.nodes.now) (links_of a.c.links a.links.now) c.requires.nodes_value.0)) (filling_none a.out.now a.at (lines link_line (live_links (bare a.nodes.now a.links.now a.c))))
 
-pub next_link-e-requires : goal.next_link-e-requires
-next_link-e-requires c = record { nodes_in_bounds = c.requires.nodes_in_bounds; nodes_value = c.requires.nodes_value }
+pub next_link-requires : goal.next_link-requires
+next_link-requires c = record { nodes_in_bounds = c.requires.nodes_in_bounds; nodes_value = c.requires.nodes_value }
 
-pub returns-then-from-eq0 : goal.returns-then-from-eq0
-returns-then-from-eq0 c =
+pub returns : goal.returns
+returns c =
     let a = c.args in
-    filling_all c.loop-c.invariant (lines_end link_line (link_end_lem c.loop-c.last (live_links (bare a.nodes.now a.links.now a.c)) c.next_link-e.result (live_started (nodes_of a.c.nodes a.nodes.now) (links_of a.c.links a.links.now) c.requires.nodes_value.0) c.next_link-e.ensures c.if-from-eq0.true))
+    filling_all c.loop-e.invariant (lines_end link_line (link_end_lem c.loop-e.last (live_links (bare a.nodes.now a.links.now a.c)) (live_started (nodes_of a.c.nodes a.nodes.now) (links_of a.c.links a.links.now) c.requires.nodes_value.0) c.in_default.ensures.value))
 
 pub fill_link-place-requires : goal.fill_link-place-requires
 fill_link-place-requires c =
-    let step : LinkStep c.loop-c.last (live_links (bare c.args.nodes.now c.args.links.now c.args.c)) c.next_link-e.result =
+    let step : LinkStep c.loop-e.last (live_links (bare c.args.nodes.now c.args.links.now c.args.c)) c.in-Some.e =
     let a = c.args in
-    link-step c.loop-c.last c.next_link-e.result (live_written (nodes_of a.c.nodes a.nodes.now) (links_of a.c.links a.links.now) c.requires.nodes_value.1) c.next_link-e.ensures c.if-from-eq0.false
+    link-step c.loop-e.last c.in-Some.e (live_written (nodes_of a.c.nodes a.nodes.now) (links_of a.c.links a.links.now) c.requires.nodes_value.1) c.in-Some.ensures.value c.in-Some.ensures.some
     in
     let a = c.args in
-    filling_fits (link_line (link c.next_link-e.result 0)) (lines link_line (rest_after c.next_link-e.result (live_links (bare a.nodes.now a.links.now a.c)))) c.loop-c.invariant (link_lines_lem (step)) c.requires.c_bound
+    filling_fits (link_line (link c.in-Some.e 0)) (lines link_line (rest_after c.in-Some.e (live_links (bare a.nodes.now a.links.now a.c)))) c.loop-e.invariant (link_lines_lem (step)) c.requires.c_bound
 
-pub loop-c-smaller : goal.loop-c-smaller
-loop-c-smaller c =
-    let step : LinkStep c.loop-c.last (live_links (bare c.args.nodes.now c.args.links.now c.args.c)) c.next_link-e.result =
+pub loop-e-smaller : goal.loop-e-smaller
+loop-e-smaller c =
+    let step : LinkStep c.loop-e.last (live_links (bare c.args.nodes.now c.args.links.now c.args.c)) c.in-Some.e =
     let a = c.args in
-    link-step c.loop-c.last c.next_link-e.result (live_written (nodes_of a.c.nodes a.nodes.now) (links_of a.c.links a.links.now) c.requires.nodes_value.1) c.next_link-e.ensures c.if-from-eq0.false
+    link-step c.loop-e.last c.in-Some.e (live_written (nodes_of a.c.nodes a.nodes.now) (links_of a.c.links a.links.now) c.requires.nodes_value.1) c.in-Some.ensures.value c.in-Some.ensures.some
     in
     omega (arith, ap length (step).rest)
 
-pub loop-c-preserved : goal.loop-c-preserved
-loop-c-preserved c =
-    let step : LinkStep c.loop-c.last (live_links (bare c.args.nodes.now c.args.links.now c.args.c)) c.next_link-e.result =
+pub loop-e-preserved : goal.loop-e-preserved
+loop-e-preserved c =
+    let step : LinkStep c.loop-e.last (live_links (bare c.args.nodes.now c.args.links.now c.args.c)) c.in-Some.e =
     let a = c.args in
-    link-step c.loop-c.last c.next_link-e.result (live_written (nodes_of a.c.nodes a.nodes.now) (links_of a.c.links a.links.now) c.requires.nodes_value.1) c.next_link-e.ensures c.if-from-eq0.false
+    link-step c.loop-e.last c.in-Some.e (live_written (nodes_of a.c.nodes a.nodes.now) (links_of a.c.links a.links.now) c.requires.nodes_value.1) c.in-Some.ensures.value c.in-Some.ensures.some
     in
-    filling_next c.loop-c.invariant (link_lines_lem (step)) c.fill_link-place.ensures c.fill_link-place.auto.out
+    filling_next c.loop-e.invariant (link_lines_lem (step)) c.fill_link-place.ensures c.fill_link-place.auto.out
