@@ -71,6 +71,7 @@ fn is_head(nodes: &[u64], text: &[u8], links: &[u64], c: Counts, v: Handle, u: H
     ensures { result ≡ first_met (graph_of nodes.now text.now links.now c) (right_of (graph_of nodes.now text.now links.now c) v) u }
 {
     let Some(first) = next_of_key(nodes, text, links, c, v, u, 0) else {
+        // `first_met` has 0 for none.
         return u.packed == 0;
     };
     first == u
