@@ -1,5 +1,5 @@
 -- What the code looks at, from one to the next, and how it hands out the group that it finds.
-use Rattle.std.specs.Prelude.{ℕ, ◌≡◌, cond, List, [], length, take}
+use Rattle.std.specs.Prelude.{ℕ, ◌≡◌, cond, List, [], length, take, Option, Some, None}
 use Rattle.kit.specs.Loops.{first_or}
 use Rattle.handle.specs.declared.Handle.{Handle}
 use Rattle.store.specs.Graph.{Graph}
@@ -18,3 +18,8 @@ first_group g protected v = first_or [] (must_collapse g protected) (groups_of g
 pub record Front (ms : List Handle) (l : List ℕ) (n : ℕ) : Type 0 where
   pub size : n ≡ length ms
   pub here : take n l ≡ numbers ms
+
+-- the size of a group that was handed out; 0 where none was
+abbrev pub size_of : Option ℕ → ℕ
+size_of None = 0
+size_of (Some n) = n

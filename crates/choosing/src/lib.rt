@@ -11,7 +11,7 @@ ghost use Rattle.sides.specs.Search.{lowest};
 ghost use Rattle.affix.specs.Prefix.{handles_of};
 ghost use Rattle.affix.specs.Reading.{Readable};
 ghost use Rattle.choosing.specs.Scan.{scan_order, is_protected, must_collapse, next_group};
-ghost use Rattle.choosing.specs.Search.{tried, first_group, Front};
+ghost use Rattle.choosing.specs.Search.{tried, first_group, Front, size_of};
 
 use handle::Handle;
 use store::{Counts, Node};
@@ -67,7 +67,7 @@ fn must_collapse(nodes: &[u64], text: &[u8], c: Counts, protected: &[u64], membe
     1 <= affix::prefix_len(nodes, text, c, members)
 }
 
-// If the group of u, a right neighbour of v, must be collapsed, puts it at the front of `members` and gives its size, else gives 0.
+// If the group of u, a right neighbour of v, must be collapsed, puts it at the front of `members` and gives its size.
 // A group that does not fit is passed over: it holds a node twice.
 fn try_group(
     nodes: &[u64],
@@ -78,22 +78,23 @@ fn try_group(
     u: Handle,
     protected: &[u64],
     members: &mut [u64],
-) -> usize
+) -> Option<usize>
     requires { (well_formed nodes.now text.now links.now c ≡ true) × (c.nodes ≤ length members.old) }
-    ensures { Front (tried (graph_of nodes.now text.now links.now c) protected.now v u) members.new result }
+    ensures value { Front (tried (graph_of nodes.now text.now links.now c) protected.now v u) members.new (size_of result) }
+    ensures some { IfSome result (λ n. 1 ≤ n) }
 {
     let n = groups::count_of_key(nodes, text, links, c, v, u);
     if n < 2 {
-        return 0;
+        return None;
     }
     if members.len() < n {
-        return 0;
+        return None;
     }
     groups::write_group(nodes, text, links, c, v, u, 0, members);
     if must_collapse(nodes, text, c, protected, &members[..n]) {
-        return n;
+        return Some(n);
     }
-    0
+    None
 }
 
 // The first group of v that must be collapsed, handed out in the same way.
@@ -105,22 +106,22 @@ fn group_of(
     v: Handle,
     protected: &[u64],
     members: &mut [u64],
-) -> usize
+) -> Option<usize>
     requires { (well_formed nodes.now text.now links.now c ≡ true) × (c.nodes ≤ length members.old) }
-    ensures { Front (first_group (graph_of nodes.now text.now links.now c) protected.now v) members.new result }
+    ensures value { Front (first_group (graph_of nodes.now text.now links.now c) protected.now v) members.new (size_of result) }
+    ensures some { IfSome result (λ n. 1 ≤ n) }
 {
     let mut above: u64 = 0;
     while let Some(u) = groups::next_head(nodes, text, links, c, v, above) {
-        let n = try_group(nodes, text, links, c, v, u, protected, members);
-        if n != 0 {
-            return n;
+        if let Some(n) = try_group(nodes, text, links, c, v, u, protected, members) {
+            return Some(n);
         }
         above = u.packed;
     }
-    0
+    None
 }
 
-// The group that the driver takes next, at the front of `members`, and its size; 0 where none is left.
+// The group that the driver takes next, at the front of `members`, and its size.
 pub fn next_group(
     nodes: &[u64],
     text: &[u8],
@@ -128,17 +129,17 @@ pub fn next_group(
     c: Counts,
     protected: &[u64],
     members: &mut [u64],
-) -> usize
+) -> Option<usize>
     requires { (well_formed nodes.now text.now links.now c ≡ true) × (c.nodes ≤ length members.old) }
-    ensures { Front (next_group (graph_of nodes.now text.now links.now c) protected.now) members.new result }
+    ensures value { Front (next_group (graph_of nodes.now text.now links.now c) protected.now) members.new (size_of result) }
+    ensures some { IfSome result (λ n. 1 ≤ n) }
 {
     let mut above: u64 = 0;
     while let Some(v) = next_scan(nodes, c.nodes, above) {
-        let n = group_of(nodes, text, links, c, v, protected, members);
-        if n != 0 {
-            return n;
+        if let Some(n) = group_of(nodes, text, links, c, v, protected, members) {
+            return Some(n);
         }
         above = v.packed;
     }
-    0
+    None
 }

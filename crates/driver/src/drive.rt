@@ -62,10 +62,9 @@ fn turn(
     requires nodes_in_bounds { c.nodes ≤ length members.old }
     ensures { outcome result (lent nodes.new links.new rules.new steps.new) ≡ holding_run (drive_for 1 (room_of (lent nodes.old links.old rules.old steps.old)) protected.now 0 (state_in (lent nodes.old links.old rules.old steps.old) text.now c u)) c (lent nodes.old links.old rules.old steps.old) }
 {
-    let n = choosing::next_group(nodes, text, links, c, protected, members);
-    if n == 0 {
+    let Some(n) = choosing::next_group(nodes, text, links, c, protected, members) else {
         return crate::refuse(0, c, u);
-    }
+    };
     collapse_whole(nodes, text, links, c, rules, steps, u, &members[..n])
 }
 

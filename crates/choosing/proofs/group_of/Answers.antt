@@ -24,20 +24,20 @@ loop-u-init c =
 pub shape_of-members : goal.shape_of-members
 shape_of-members c = c.loop-u.invariant.0
 
-pub returns : goal.returns
-returns c =
+pub returns-clause-value : goal.returns-clause-value
+returns-clause-value c =
     let a = c.args in
     let g : Graph = graph_of a.nodes.now a.text.now a.links.now a.c in
     turn_end g a.protected.now (ap (map (group_of g (right_of g a.v))) (next_end c.loop-u.above (heads_of g a.v) c.in_default.ensures.value)) c.loop-u.invariant.1
 
-pub try_group-n-requires : goal.try_group-n-requires
-try_group-n-requires c = (c.requires.0, omega (arith, c.requires.1, c.loop-u.invariant.0))
+pub try_group-requires : goal.try_group-requires
+try_group-requires c = (c.requires.0, omega (arith, c.requires.1, c.loop-u.invariant.0))
 
-pub shape_of-members-then-n-ne0 : goal.shape_of-members-then-n-ne0
-shape_of-members-then-n-ne0 c = c.try_group-n.auto.members ∙ c.loop-u.invariant.0
+pub shape_of-members-in-Some-try_group : goal.shape_of-members-in-Some-try_group
+shape_of-members-in-Some-try_group c = c.try_group.auto.members ∙ c.loop-u.invariant.0
 
-pub returns-then-n-ne0 : goal.returns-then-n-ne0
-returns-then-n-ne0 c =
+pub returns-in-Some-try_group-clause-value : goal.returns-in-Some-try_group-clause-value
+returns-in-Some-try_group-clause-value c =
     let step : Step c.loop-u.above (heads_of (graph_of c.args.nodes.now c.args.text.now c.args.links.now c.args.c) c.args.v) c.in-Some.u.packed =
     let a = c.args in
     next-step c.loop-u.above c.in-Some.u.packed (heads_sorted (graph_of a.nodes.now a.text.now a.links.now a.c) a.v) c.in-Some.ensures.value c.in-Some.ensures.some
@@ -45,7 +45,7 @@ returns-then-n-ne0 c =
     let a = c.args in
     let g : Graph = graph_of a.nodes.now a.text.now a.links.now a.c in
     let u = c.in-Some.u.packed in
-    turn-found g a.protected.now (group_of g (right_of g a.v) (handle u) ∷ []) (left g a.v u) (ap (map (group_of g (right_of g a.v))) (step).rest) c.loop-u.invariant.1 c.try_group-n.ensures c.if-n-ne0.true
+    turn-found g a.protected.now (group_of g (right_of g a.v) (handle u) ∷ []) (left g a.v u) (ap (map (group_of g (right_of g a.v))) (step).rest) c.loop-u.invariant.1 c.in-Some-try_group.ensures.value (λ z. omega (arith, c.in-Some-try_group.ensures.some))
 
 pub loop-u-smaller : goal.loop-u-smaller
 loop-u-smaller c =
@@ -64,4 +64,4 @@ loop-u-preserved c =
     let a = c.args in
     let g : Graph = graph_of a.nodes.now a.text.now a.links.now a.c in
     let u = c.in-Some.u.packed in
-    (c.try_group-n.auto.members ∙ c.loop-u.invariant.0, turn_none g a.protected.now (group_of g (right_of g a.v) (handle u) ∷ []) (left g a.v u) (ap (map (group_of g (right_of g a.v))) (step).rest) c.loop-u.invariant.1 c.try_group-n.ensures c.if-n-ne0.false)
+    (c.try_group.auto.members ∙ c.loop-u.invariant.0, turn_none g a.protected.now (group_of g (right_of g a.v) (handle u) ∷ []) (left g a.v u) (ap (map (group_of g (right_of g a.v))) (step).rest) c.loop-u.invariant.1 c.in_default-try_group.ensures.value refl)

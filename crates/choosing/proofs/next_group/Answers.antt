@@ -27,20 +27,20 @@ next_scan-requires c =
 pub shape_of-members : goal.shape_of-members
 shape_of-members c = c.loop-v.invariant.0
 
-pub returns : goal.returns
-returns c =
+pub returns-clause-value : goal.returns-clause-value
+returns-clause-value c =
     let a = c.args in
     let g : Graph = graph_of a.nodes.now a.text.now a.links.now a.c in
     turn_end g a.protected.now (ap (lines (groups_of g)) (next_end c.loop-v.above (scan_order g.nodes) c.in_default.ensures.value)) c.loop-v.invariant.1
 
-pub group_of-n-requires : goal.group_of-n-requires
-group_of-n-requires c = (c.requires.0, omega (arith, c.requires.1, c.loop-v.invariant.0))
+pub group_of-requires : goal.group_of-requires
+group_of-requires c = (c.requires.0, omega (arith, c.requires.1, c.loop-v.invariant.0))
 
-pub shape_of-members-then-n-ne0 : goal.shape_of-members-then-n-ne0
-shape_of-members-then-n-ne0 c = c.group_of-n.auto.members ∙ c.loop-v.invariant.0
+pub shape_of-members-in-Some-group_of : goal.shape_of-members-in-Some-group_of
+shape_of-members-in-Some-group_of c = c.group_of.auto.members ∙ c.loop-v.invariant.0
 
-pub returns-then-n-ne0 : goal.returns-then-n-ne0
-returns-then-n-ne0 c =
+pub returns-in-Some-group_of-clause-value : goal.returns-in-Some-group_of-clause-value
+returns-in-Some-group_of-clause-value c =
     let step : Step c.loop-v.above (scan_order (nodes_of c.args.c.nodes c.args.nodes.now)) c.in-Some.v.packed =
     let a = c.args in
     next-step c.loop-v.above c.in-Some.v.packed (scan_sorted (nodes_of a.c.nodes a.nodes.now)) c.in-Some.ensures.value c.in-Some.ensures.some
@@ -48,7 +48,7 @@ returns-then-n-ne0 c =
     let a = c.args in
     let g : Graph = graph_of a.nodes.now a.text.now a.links.now a.c in
     let v = c.in-Some.v.packed in
-    turn-found g a.protected.now (groups_of g (handle v)) (lines (groups_of g) (rest_above v (scan_order g.nodes))) (ap (lines (groups_of g)) (step).rest) c.loop-v.invariant.1 c.group_of-n.ensures c.if-n-ne0.true
+    turn-found g a.protected.now (groups_of g (handle v)) (lines (groups_of g) (rest_above v (scan_order g.nodes))) (ap (lines (groups_of g)) (step).rest) c.loop-v.invariant.1 c.in-Some-group_of.ensures.value (λ z. omega (arith, c.in-Some-group_of.ensures.some))
 
 pub loop-v-smaller : goal.loop-v-smaller
 loop-v-smaller c =
@@ -67,4 +67,4 @@ loop-v-preserved c =
     let a = c.args in
     let g : Graph = graph_of a.nodes.now a.text.now a.links.now a.c in
     let v = c.in-Some.v.packed in
-    (c.group_of-n.auto.members ∙ c.loop-v.invariant.0, turn_none g a.protected.now (groups_of g (handle v)) (lines (groups_of g) (rest_above v (scan_order g.nodes))) (ap (lines (groups_of g)) (step).rest) c.loop-v.invariant.1 c.group_of-n.ensures c.if-n-ne0.false)
+    (c.group_of.auto.members ∙ c.loop-v.invariant.0, turn_none g a.protected.now (groups_of g (handle v)) (lines (groups_of g) (rest_above v (scan_order g.nodes))) (ap (lines (groups_of g)) (step).rest) c.loop-v.invariant.1 c.in_default-group_of.ensures.value refl)

@@ -1,4 +1,4 @@
-use mathlib.Core.Path.{◌≡◌, ◌∙◌}
+use mathlib.Core.Path.{◌≡◌, refl, ◌∙◌}
 use native.Mathlib.Omega.{arith}
 use lib.ListN.{length, take}
 use Rattle.collapsing.specs.Outcome.{lent}
@@ -6,16 +6,16 @@ use Rattle.collapsing.proofs.Given.{Sound}
 use Rattle.driver.proofs.Turns.{found-size, found-fits, none_found, found}
 use Rattle.driver.proofs.drive.turn.Goals as goal
 
-pub next_group-n-requires : goal.next_group-n-requires
-next_group-n-requires c = (c.requires.c_value.0, c.requires.nodes_in_bounds)
+pub next_group-requires : goal.next_group-requires
+next_group-requires c = (c.requires.c_value.0, c.requires.nodes_in_bounds)
 
-pub returns-then-n-eq0 : goal.returns-then-n-eq0
-returns-then-n-eq0 c =
+pub returns-in_default : goal.returns-in_default
+returns-in_default c =
     let sound : Sound ((lent c.args.nodes.now c.args.links.now c.args.rules.now c.args.steps.now)) c.args.text.now c.args.c c.args.u =
     record { graph = c.requires.c_value.0; events = c.requires.u_value.0; ids = c.requires.c_value.1; keys = c.requires.u_value.1 }
     in
     let a = c.args in
-    rw c.refuse.ensures (none_found ((lent c.args.nodes.now c.args.links.now c.args.rules.now c.args.steps.now)) a.text.now a.c a.u (sound) a.protected.now _ c.next_group-n.result c.next_group-n.ensures c.if-n-eq0.true)
+    rw c.refuse.ensures (none_found ((lent c.args.nodes.now c.args.links.now c.args.rules.now c.args.steps.now)) a.text.now a.c a.u (sound) a.protected.now _ 0 c.in_default.ensures.value refl)
 
 pub slice_bounds-collapse_whole-end : goal.slice_bounds-collapse_whole-end
 slice_bounds-collapse_whole-end c =
@@ -23,16 +23,16 @@ slice_bounds-collapse_whole-end c =
     record { graph = c.requires.c_value.0; events = c.requires.u_value.0; ids = c.requires.c_value.1; keys = c.requires.u_value.1 }
     in
     let a = c.args in
-    found-fits ((lent c.args.nodes.now c.args.links.now c.args.rules.now c.args.steps.now)) a.text.now a.c a.u (sound) a.protected.now _ c.next_group-n.result c.next_group-n.ensures
+    found-fits ((lent c.args.nodes.now c.args.links.now c.args.rules.now c.args.steps.now)) a.text.now a.c a.u (sound) a.protected.now _ c.in-Some.n c.in-Some.ensures.value
 
 pub slice_bounds-collapse_whole-end-2 : goal.slice_bounds-collapse_whole-end-2
 slice_bounds-collapse_whole-end-2 c =
     let sound : Sound ((lent c.args.nodes.now c.args.links.now c.args.rules.now c.args.steps.now)) c.args.text.now c.args.c c.args.u =
     record { graph = c.requires.c_value.0; events = c.requires.u_value.0; ids = c.requires.c_value.1; keys = c.requires.u_value.1 }
     in
-    let size : c.next_group-n.result ≡ length (take c.next_group-n.result c.next_group-n.new.members) =
+    let size : c.in-Some.n ≡ length (take c.in-Some.n c.next_group.new.members) =
     let a = c.args in
-    found-size ((lent c.args.nodes.now c.args.links.now c.args.rules.now c.args.steps.now)) a.text.now a.c a.u (sound) a.protected.now _ c.next_group-n.result c.next_group-n.ensures
+    found-size ((lent c.args.nodes.now c.args.links.now c.args.rules.now c.args.steps.now)) a.text.now a.c a.u (sound) a.protected.now _ c.in-Some.n c.in-Some.ensures.value
     in
     size
 
@@ -41,11 +41,11 @@ collapse_whole-requires c =
     let sound : Sound ((lent c.args.nodes.now c.args.links.now c.args.rules.now c.args.steps.now)) c.args.text.now c.args.c c.args.u =
     record { graph = c.requires.c_value.0; events = c.requires.u_value.0; ids = c.requires.c_value.1; keys = c.requires.u_value.1 }
     in
-    let size : c.next_group-n.result ≡ length (take c.next_group-n.result c.next_group-n.new.members) =
+    let size : c.in-Some.n ≡ length (take c.in-Some.n c.next_group.new.members) =
     let a = c.args in
-    found-size ((lent c.args.nodes.now c.args.links.now c.args.rules.now c.args.steps.now)) a.text.now a.c a.u (sound) a.protected.now _ c.next_group-n.result c.next_group-n.ensures
+    found-size ((lent c.args.nodes.now c.args.links.now c.args.rules.now c.args.steps.now)) a.text.now a.c a.u (sound) a.protected.now _ c.in-Some.n c.in-Some.ensures.value
     in
-    record { c_value = c.requires.c_value; u_value = c.requires.u_value; in_bounds = omega (arith, size, c.if-n-eq0.false) }
+    record { c_value = c.requires.c_value; u_value = c.requires.u_value; in_bounds = omega (arith, size, c.in-Some.ensures.some) }
 
 pub returns : goal.returns
 returns c =
@@ -53,4 +53,4 @@ returns c =
     record { graph = c.requires.c_value.0; events = c.requires.u_value.0; ids = c.requires.c_value.1; keys = c.requires.u_value.1 }
     in
     let a = c.args in
-    c.collapse_whole.ensures ∙ found ((lent c.args.nodes.now c.args.links.now c.args.rules.now c.args.steps.now)) a.text.now a.c a.u (sound) a.protected.now _ c.next_group-n.result c.next_group-n.ensures c.if-n-eq0.false
+    c.collapse_whole.ensures ∙ found ((lent c.args.nodes.now c.args.links.now c.args.rules.now c.args.steps.now)) a.text.now a.c a.u (sound) a.protected.now _ c.in-Some.n c.in-Some.ensures.value (λ z. omega (arith, c.in-Some.ensures.some))
