@@ -13,7 +13,7 @@ fn copy<'a>(from: &[u64], to: &'a mut [u64]) -> &'a mut [u64]
     &mut to[..n]
 }
 
-// As bytes, each number's lowest.
+// As bytes, each number's lowest. A conversion of each, which no method of a slice makes.
 fn narrow<'a>(from: &[u64], to: &'a mut [u8]) -> &'a mut [u8]
     ensures { result.now ≡ map low_byte (take (length to.old) from.now) }
 {
@@ -24,7 +24,7 @@ fn narrow<'a>(from: &[u64], to: &'a mut [u8]) -> &'a mut [u8]
     &mut to[..n]
 }
 
-// Bytes as numbers.
+// Bytes as numbers, one by one as above.
 pub fn widen<'a>(from: &[u8], to: &'a mut [u64]) -> &'a mut [u64]
     ensures { result.now ≡ take (length to.old) from.now }
 {

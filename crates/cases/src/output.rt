@@ -177,6 +177,7 @@ pub fn put_last_bytes(rt: &impl Print, out: &mut [u8], at: usize, bytes: &[u8]) 
     requires { Room at out.old }
     ensures { Room result out.new }
 {
+    // No heap: the room is of fixed size.
     let mut space = [0u64; 65536];
     let numbers = lend::widen(bytes, &mut space);
     put_last(rt, out, at, numbers)

@@ -16,7 +16,7 @@ ghost use Rattle.choosing.specs.Search.{tried, first_group, Front, size_of};
 use handle::Handle;
 use store::{Counts, Node};
 
-// The lower of both directions of a node, where they are above `above`, and the best so far.
+// The lower of both directions of a node, where they are above `above`, and the best so far, as `sides::lower` gives it.
 fn lower_of_both(id: u64, above: u64, best: u64) -> u64
     requires { id ≤ max_id }
     ensures { result ≡ lowest above best (pack id 0 ∷ pack id 1 ∷ []) }

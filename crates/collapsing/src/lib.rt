@@ -123,6 +123,7 @@ pub fn collapse_group(
     if let Err(why) = ready::ready_number(nodes, text, links, c, rules, steps, u, members, p) {
         return refuse(why, c, u);
     }
+    // No heap: the room is of fixed size.
     let mut room = [0u64; 393216];
     collapse_ready(
         nodes, text, links, c, rules, steps, u, members, p, &mut room,

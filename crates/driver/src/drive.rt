@@ -121,6 +121,7 @@ pub fn drive(
     requires u_value { (events_formed rules.old steps.old u ≡ true) × (keys_once (rules_of u.rules rules.old) ≡ true) }
     ensures { outcome result (lent nodes.new links.new rules.new steps.new) ≡ drive_outcome (lent nodes.old links.old rules.old steps.old) text.now c u protected.now }
 {
+    // No heap: the room is of fixed size.
     let mut members = [0u64; 65536];
     drive_in(
         nodes,

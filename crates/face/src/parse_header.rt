@@ -6,8 +6,10 @@ ghost use Rattle.face.specs.ParseHeader.{header_part, bytes_of};
 
 const NEWLINE: u8 = 10;
 
+// C gets it: where the header stands.
 const TEXT: u64 = 0;
 
+// C gets it.
 const FALLBACK: u64 = 1;
 
 #[repr(C)]

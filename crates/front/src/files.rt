@@ -127,6 +127,7 @@ fn write(mut file: impl Write + OpenFile + Drop, bytes: &[u8]) -> io::Result<()>
 
 // A part that could not be written whole does not stay.
 fn write_part(rt: &impl Files, name: &[u8], bytes: &[u8]) -> io::Result<()> {
+    // No heap: the room is of fixed size.
     let mut path = [0u8; 4096];
     let n = part(name, &mut path)?;
     let file = create(rt, &path[..n])?;
@@ -138,12 +139,14 @@ fn write_part(rt: &impl Files, name: &[u8], bytes: &[u8]) -> io::Result<()> {
 }
 
 fn drop_part(rt: &impl Files, name: &[u8]) -> io::Result<()> {
+    // No heap: the room is of fixed size.
     let mut path = [0u8; 4096];
     let n = part(name, &mut path)?;
     unlink(rt, &path[..n])
 }
 
 fn keep_part(rt: &impl Files, name: &[u8]) -> io::Result<()> {
+    // No heap: the room is of fixed size.
     let mut path = [0u8; 4096];
     let n = part(name, &mut path)?;
     let renamed = rename(rt, &path[..n], name);

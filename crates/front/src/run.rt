@@ -15,8 +15,10 @@ use scanning::Verdict;
 use std::io;
 use std::rt::Files;
 
+// The program's exit status, a number as the system takes it.
 const REFUSED: u64 = 1;
 
+// The same.
 const UNUSABLE: u64 = 2;
 
 // How many events there is room for.
@@ -108,6 +110,7 @@ fn work(
 {
     let check = ask::count(words, Role::Check) != 0;
     let events = 4 * most.min(EVENTS);
+    // No heap: the room is of fixed size.
     let mut old_nodes = [0u64; 4096];
     let mut letters = [0u8; 16384];
     let mut old_links = [0u64; 6144];
@@ -154,6 +157,7 @@ enum Unlisted {
 fn read_ids(rt: &(impl Files + Input), name: &[u8], room: &mut [u64]) -> Result<usize, Unlisted>
     ensures { IfOk result (λ n. n ≤ length room.new) }
 {
+    // No heap: the room is of fixed size.
     let mut bytes = [0u8; 65537];
     let n = files::read(rt, name, &mut bytes).map_err(Unlisted::Unread)?;
     if 65536 < n {
@@ -172,6 +176,7 @@ fn with_ids(
 ) -> u64
     ensures { result ≤ 3 }
 {
+    // No heap: the room is of fixed size.
     let mut room = [0u64; 4096];
     let name = ask::first(words, Role::Ids);
     if name.is_empty() {
@@ -197,6 +202,7 @@ fn with_text(
 ) -> u64
     ensures { result ≤ 3 }
 {
+    // No heap: the room is of fixed size.
     let mut bytes = [0u8; 65537];
     let name = ask::first(words, Role::Graph);
     match files::read(rt, name, &mut bytes) {

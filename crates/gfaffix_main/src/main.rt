@@ -30,6 +30,7 @@ fn collect(rt: &impl Env, words: &mut [u8]) -> Option<usize>
 fn run(rt: &HostRuntime) -> u64
     ensures { result ≤ 3 }
 {
+    // No heap: the room is of fixed size.
     let mut words = [0u8; 32768];
     let Some(n) = collect(rt, &mut words) else {
         return front::run::too_long(&rt.stderr());

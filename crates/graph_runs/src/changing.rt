@@ -153,6 +153,7 @@ pub fn run(
     if let Some(fault) = faults::first_fault(given, shape) {
         return output::put_fault(rt, out, at, fault);
     }
+    // No heap: the room is of fixed size.
     let mut first = [0u64; 16384];
     let mut second = [0u64; 16384];
     let mut third = [0u64; 16384];

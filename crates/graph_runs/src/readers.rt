@@ -138,6 +138,7 @@ pub fn run(
     if let Some(fault) = faults::first_fault(given, shape) {
         return output::put_fault(rt, out, at, fault);
     }
+    // No heap: the room is of fixed size.
     let mut space = [0u8; 131072];
     let letters = lend::bytes(given, shape, 1, text);
     let room = lend::bytes(given, shape, 7, &mut space);

@@ -15,7 +15,7 @@ ghost use Rattle.groups.specs.Search.{of_key, heads_of, first_met};
 use handle::Handle;
 use store::{Counts, Node};
 
-// The first letter that an oriented node reads; 0 where no such node is stored.
+// The first letter that an oriented node reads; 0 where no such node is stored, as the clause's `letter_of` says.
 fn first_letter(nodes: &[u64], text: &[u8], c: Counts, u: Handle) -> u8
     requires nodes_in_bounds { (4 * c.nodes ≤ length nodes.now) × (c.letters ≤ length text.now) }
     requires nodes_value { all (good_node (take c.letters text.now)) (nodes_of c.nodes nodes.now) ≡ true }

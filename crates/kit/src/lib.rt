@@ -69,6 +69,7 @@ pub fn put_decimal(out: &mut [u8], at: usize, n: u64) -> usize
     let w = width(n);
     let mut k = at + w - 1;
     let mut x = n;
+    // The same.
     while 10 <= x {
         out[k] = 48 + (x % 10) as u8;
         x = x / 10;

@@ -43,6 +43,7 @@ fn add_link(links: &mut [u64], count: usize, x: Handle, y: Handle) -> Option<usi
     requires { 3 * count ≤ length links.old }
     ensures { Makes links.old (add_link (edge x y) (links_of count links.old)) result links.new }
 {
+    // 01 names the form: a lookup taken apart at once.
     let Some(_) = store::find_link(links, count, x, y) else {
         return append_link(links, count, x, y);
     };
@@ -113,6 +114,7 @@ fn bury_links(links: &mut [u64], count: usize, id: u64)
     ensures { links.new ≡ encode link_layout (map (bury id) (links_of count links.old)) ++ drop (3 * count) links.old }
 {
     for i in 0..count {
+        // One number of the record: all of it would be read and written for that.
         links[3 * i + 2] = bury_mark(Link::at(links, i), id);
     }
 }

@@ -46,6 +46,7 @@ fn put_ends(plan: &[u64], links: &mut [u64], count: usize)
     ensures { links.new ≡ encode link_layout (remark (links_of count links.old) (links_of count plan.now)) ++ drop (3 * count) links.old }
 {
     for i in 0..count {
+        // Two numbers of the record: all of it would be read and written for them.
         links[3 * i] = plan[3 * i];
         links[3 * i + 1] = plan[3 * i + 1];
     }

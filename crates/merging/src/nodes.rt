@@ -19,6 +19,7 @@ fn mark_node(nodes: &mut [u64], count: usize, id: u64)
     let Some(i) = store::find_node(nodes, count, id) else {
         return;
     };
+    // One number of the record: all of it would be read and written for that.
     nodes[4 * i + 3] = 1;
 }
 

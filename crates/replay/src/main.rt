@@ -212,6 +212,7 @@ fn line(
         *s = stream::skip_line(rt, buf, *s);
         return at;
     }
+    // No heap: the room is of fixed size.
     let mut name = [0u8; 32];
     let k = input::word(rt, buf, s, &mut name).unwrap_or(0);
     let count = input::numbers(rt, buf, s, numbers);
@@ -250,6 +251,7 @@ fn lines(
 }
 
 fn main(rt: HostRuntime) -> io::Result<()> {
+    // No heap: the room is of fixed size.
     let mut buf = [0u8; 65536];
     let mut numbers = [0u64; 393216];
     let mut text = [0u8; 131072];

@@ -12,7 +12,8 @@ ghost use Rattle.sides.specs.Search.{lower, lowest, side_ends, side_of};
 use handle::Handle;
 use store::{Counts, Link};
 
-// The lower of n, where it is above `above`, and the best so far; 0 is none so far.
+// The lower of n, where it is above `above`, and the best so far; 0 is none so far. A number, as `lowest` in specs/ goes
+// along: an Option would be taken apart at every link.
 pub fn lower(above: u64, n: u64, best: u64) -> u64
     ensures { result ≡ lower above n best }
 {
@@ -46,7 +47,7 @@ fn offer(given: bool, u: Handle, above: u64, best: u64) -> u64
     lower(above, u.packed, best)
 }
 
-// Where a link leads from v: by its own form, and by its other one.
+// Where a link leads from v: by its own form, and by its other one. A number, as `lower` gives.
 pub fn lead(v: Handle, l: Link, above: u64, best: u64) -> u64
     ensures { result ≡ lowest above best (right_ends v l) }
 {
@@ -55,7 +56,7 @@ pub fn lead(v: Handle, l: Link, above: u64, best: u64) -> u64
     offer(l.from == v, l.to, above, other)
 }
 
-// On the left a link is read from its other end.
+// On the left a link is read from its other end. By a flag, as `side_of` is: a closure would hide which list is meant.
 fn lead_side(left: bool, v: Handle, l: Link, above: u64, best: u64) -> u64
     ensures { result ≡ lowest above best (side_ends left v l) }
 {

@@ -33,6 +33,7 @@ pub fn first_gap(links: &[u64], count: usize, walk: &[u64]) -> Option<usize>
             packed: walk[i - 1],
         };
         let v = Handle { packed: walk[i] };
+        // 01 names the form: a lookup taken apart at once.
         let Some(_) = store::find_link(links, count, u, v) else {
             return Some(i);
         };

@@ -40,6 +40,7 @@ fn move_links(links: &mut [u64], count: usize, v: Handle, f: Handle)
     ensures { links.new ≡ encode link_layout (map (move_link v f) (links_of count links.old)) ++ drop (3 * count) links.old }
 {
     for i in 0..count {
+        // Two numbers of the record: all of it would be read and written for them.
         let e = move_ends(links[3 * i], links[3 * i + 1], v, f);
         let a = e.from;
         let b = e.to;
@@ -75,6 +76,7 @@ fn cut_node(nodes: &mut [u64], count: usize, at: usize, id: u64, k: u64)
     requires at_lt_count { (at < count) × (find_node id (nodes_of count nodes.old) ≡ Some at) × (ids_once (nodes_of count nodes.old) ≡ true) }
     ensures { nodes.new ≡ encode node_layout (map (cut id k) (nodes_of count nodes.old)) ++ drop (4 * count) nodes.old }
 {
+    // One number of the record: all of it would be read and written for that.
     nodes[4 * at + 2] = k;
 }
 

@@ -113,7 +113,7 @@ pub fn find_node(nodes: &[u64], count: usize, id: u64) -> Option<usize>
     None
 }
 
-// How many letters the node has; 0 where there is none.
+// How many letters the node has; 0 where there is none, as the clause's `node_named` says.
 pub fn node_len(nodes: &[u64], count: usize, id: u64) -> u64
     requires { 4 * count ≤ length nodes.now }
     ensures { result ≡ (node_named id (nodes_of count nodes.now)).len }

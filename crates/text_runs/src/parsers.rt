@@ -47,6 +47,7 @@ fn read_gfa(
     requires { Room at out.old }
     ensures { Room result out.new }
 {
+    // No heap: the room is of fixed size.
     let mut wide = [0u64; 131072];
     let r = gfaffix::read_gfa::read_gfa(text, nodes, letters, links);
     let read = lend::widen(letters, &mut wide);
@@ -64,6 +65,7 @@ fn with_store(
     requires { Room at out.old }
     ensures { Room result out.new }
 {
+    // No heap: the room is of fixed size.
     let mut first = [0u64; 65536];
     let mut second = [0u8; 131072];
     let mut third = [0u64; 65536];
@@ -85,6 +87,7 @@ fn parse_header(
     requires { Room at out.old }
     ensures { Room result out.new }
 {
+    // No heap: the room is of fixed size.
     let mut space = [0u8; 131072];
     let mut wide = [0u64; 131072];
     let fallback = lend::bytes(given, shape, 1, &mut space);

@@ -85,6 +85,7 @@ fn with_paths(
     requires { Room at out.old }
     ensures { Room result out.new }
 {
+    // No heap: the room is of fixed size.
     let mut first = [0u8; 131072];
     let mut second = [0u8; 65536];
     let letters = lend::bytes(given, shape, 2, &mut first);
@@ -108,6 +109,7 @@ pub fn run(
     if let Some(fault) = faults::first_fault(given, shape) {
         return output::put_fault(rt, out, at, fault);
     }
+    // No heap: the room is of fixed size.
     let mut space = [0u8; 65536];
     match operation {
         Operation::PrintActiveSubgraph => {

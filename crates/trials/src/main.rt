@@ -56,6 +56,7 @@ fn most(from: usize) -> usize {
 }
 
 fn run(rt: &(impl Files + Input + Print), line: &[u8], most: usize) -> io::Result<()> {
+    // No heap: the room is of fixed size.
     let mut words = [0u8; 4096];
     rt.write_all(b"$ gfaffix ")?;
     rt.write_all(line)?;
@@ -91,6 +92,7 @@ fn all(rt: &(impl Files + Input + Print), text: &[u8]) -> io::Result<()> {
 }
 
 fn main(rt: HostRuntime) -> io::Result<()> {
+    // No heap: the room is of fixed size.
     let mut room = [0u8; 32768];
     let n = read_full(&rt, &mut room);
     all(&rt, &room[..n])

@@ -35,6 +35,7 @@ fn give(
     if !events::in_order(rules, steps, u) {
         return Err(Refusal::Later);
     }
+    // No heap: the room is of fixed size.
     let mut lens: [u64; 65536] = [0; 65536];
     let total = expansion::measure(rules, steps, u, &mut lens) as usize;
     let used = Used {

@@ -31,7 +31,8 @@ pub fn next_segment(nodes: &[u64], count: usize, above: u64) -> Option<Handle>
     sides::handle_of(best)
 }
 
-// The sooner of f, where it is written after e, and the first so far, which may be none.
+// The sooner of f, where it is written after e, and the first so far. None so far is the edge of zeros, as `sooner` in
+// specs/ goes along.
 fn sooner(e: Edge, f: Edge, best: Edge) -> Edge
     ensures { result ≡ sooner e f best }
 {
