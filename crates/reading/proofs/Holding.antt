@@ -67,14 +67,11 @@ module _ {l : Store} {g : Graph} {m : Store} {c : Counts} (h : Held l g m c) whe
   link_room_lem = omega (arith, link-count, same-links, room_held.link_room)
 
   -- nothing more is read: a refusal, or a line that is passed over
-  same : Held l g m (counts_of g)
-  same = record { room = h.room; used = refl; arrays = h.arrays }
+  pub stops : (e : Refusal) → Came {A = Counts} l (stopped (number e) g) m (Err e) c
+  stops e = record { number = refl; held = h }
 
-  pub stops : (e : Refusal) → Came l (stopped (number e) g) m (Err e)
-  stops e = record { number = refl; held = same; used = tt }
-
-  pub goes : Came l (going g) m (Ok c)
-  goes = record { number = refl; held = same; used = h.used }
+  pub goes : Came {A = Counts} l (going g) m (Ok c) c
+  goes = record { number = refl; held = h }
 
 -- before the first line, every array holds the empty graph
 pub held_none : (nodes letters links : List ℕ) → Held (store nodes letters links) empty (store nodes letters links) (counts 0 0 0)

@@ -76,7 +76,7 @@ module _ {l : Store} {g : Graph} {m : Store} {c : Counts} (h : Held l g m c) whe
             })
 
     -- 5
-    pub segment_again : stored id (nodes_of c.nodes m.nodes) ≡ true → Came l (add_segment l g id s) m (Err Twice)
+    pub segment_again : stored id (nodes_of c.nodes m.nodes) ≡ true → Came {A = Counts} l (add_segment l g id s) m (Err Twice) c
     segment_again t = rw (sym (ap (stored id) (nodes_held h)) ∙ t) (stops h Twice)
 
     -- 7, or it is stored
@@ -84,10 +84,10 @@ module _ {l : Store} {g : Graph} {m : Store} {c : Counts} (h : Held l g m c) whe
       absent : stored id g.nodes ≡ false
       absent = sym (ap (stored id) (nodes_held h)) ∙ new
 
-      pub segment_full : b ≡ false → Came l (add_segment l g id s) m (Err Room)
+      pub segment_full : b ≡ false → Came {A = Counts} l (add_segment l g id s) m (Err Room) c
       segment_full t = rw (absent, sym segment_fits ∙ sym f ∙ t) (stops h Room)
 
-      pub segment_stored : b ≡ true → {nodes letters : List ℕ} {end : ℕ} → nodes ≡ encode node_layout (nodes_of c.nodes m.nodes ++ (node id c.letters (length s) 0 ∷ [])) ++ drop (4 * (c.nodes + 1)) m.nodes → letters ≡ sets m.letters c.letters s → end ≡ c.letters + length s → Came l (add_segment l g id s) (store nodes letters m.links) (Ok (counts (c.nodes + 1) end c.links))
+      pub segment_stored : b ≡ true → {nodes letters : List ℕ} {end : ℕ} → nodes ≡ encode node_layout (nodes_of c.nodes m.nodes ++ (node id c.letters (length s) 0 ∷ [])) ++ drop (4 * (c.nodes + 1)) m.nodes → letters ≡ sets m.letters c.letters s → end ≡ c.letters + length s → Came l (add_segment l g id s) (store nodes letters m.links) (Ok (counts (c.nodes + 1) end c.links)) (counts (c.nodes + 1) end c.links)
       segment_stored t {nodes} {letters} {end} p q e =
           let fit : fits_in l g' ≡ true = sym segment_fits ∙ sym f ∙ t in
           let r = room_says l.nodes l.letters l.links (counts_of g') fit in
@@ -95,11 +95,10 @@ module _ {l : Store} {g : Graph} {m : Store} {c : Counts} (h : Held l g m c) whe
           rw (absent, fit)
           (record {
             number = refl;
-            used = rw (one-node, its_letters, e, node-count h, letter_count h, link-count h);
             held =
                 record {
                   room = fit;
-                  used = refl;
+                  used = rw (one-node, its_letters, e, node-count h, letter_count h, link-count h);
                   arrays =
                       same_store
                       (one_record node_layout g.nodes l.nodes c.nodes (node id (length g.letters) (length s) 0) (node-count h) (nodes_now h) n)
@@ -111,7 +110,7 @@ module _ {l : Store} {g : Graph} {m : Store} {c : Counts} (h : Held l g m c) whe
   -- a link
   module _ (e : Edge) where
     -- stored already: nothing changes
-    pub link_again : linked e (links_of c.links m.links) ≡ true → Came l (add_link l g e) m (Ok c)
+    pub link_again : linked e (links_of c.links m.links) ≡ true → Came l (add_link l g e) m (Ok c) c
     link_again t = rw (sym (ap (linked e) (links_held h)) ∙ t, h.room) (goes h)
 
     module _ (new : linked e (links_of c.links m.links) ≡ false) {b : Bool} (f : b ≡ room_for [] [] m.links (counts 0 0 (c.links + 1))) where
@@ -154,20 +153,19 @@ module _ {l : Store} {g : Graph} {m : Store} {c : Counts} (h : Held l g m c) whe
                 link_room = omega (arith, one_link, link-count h, same-links h, r.link_room);
               })
 
-      pub link_full : b ≡ false → Came l (add_link l g e) m (Err Room)
+      pub link_full : b ≡ false → Came {A = Counts} l (add_link l g e) m (Err Room) c
       link_full t = rw (unlinked, sym link_fits ∙ sym f ∙ t) (stops h Room)
 
-      pub link-stored : b ≡ true → {links : List ℕ} {w : Edge} → w ≡ written e → links ≡ encode link_layout (links_of c.links m.links ++ (link w 0 ∷ [])) ++ drop (3 * (c.links + 1)) m.links → Came l (add_link l g e) (store m.nodes m.letters links) (Ok (counts c.nodes c.letters (c.links + 1)))
+      pub link-stored : b ≡ true → {links : List ℕ} {w : Edge} → w ≡ written e → links ≡ encode link_layout (links_of c.links m.links ++ (link w 0 ∷ [])) ++ drop (3 * (c.links + 1)) m.links → Came l (add_link l g e) (store m.nodes m.letters links) (Ok (counts c.nodes c.letters (c.links + 1))) (counts c.nodes c.letters (c.links + 1))
       link-stored t {links} {w} v p =
           let fit : fits_in l g'' ≡ true = sym link_fits ∙ sym f ∙ t in
           rw (unlinked, fit)
           (record {
             number = refl;
-            used = rw (one_link, node-count h, letter_count h, link-count h);
             held =
                 record {
                   room = fit;
-                  used = refl;
+                  used = rw (one_link, node-count h, letter_count h, link-count h);
                   arrays =
                       same_store (nodes_now h) (letters_now h)
                       (one_record link_layout g.links l.links c.links (link (written e) 0) (link-count h) (links_now h) (rw (← v) p));

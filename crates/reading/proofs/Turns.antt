@@ -6,8 +6,7 @@ use mathlib.Core.List.{List, [], ◌∷◌}
 use native.Mathlib.Omega.{arith}
 use lib.Dec.{eqb}
 use lib.ListN.{length}
-use Rattle.std.specs.Prelude.{Result, Ok, Err}
-use Rattle.std.proofs.lemmas.Result.{IfOk-at_ok}
+use Rattle.std.specs.Prelude.{⊤, Result, Ok, Err}
 use Rattle.kit.specs.declared.Refusal.{Refusal}
 use Rattle.kit.specs.Refusal.{number}
 use Rattle.kit.proofs.Refusals.{number_not_0, refused_is, passed_is}
@@ -15,7 +14,7 @@ use Rattle.store.specs.declared.Counts.{Counts}
 use Rattle.store.specs.Graph.{Graph}
 use Rattle.reading.specs.Reading.{Store, store, Progress, counts_of, stopped, going, goes_on, pass, empty}
 use Rattle.reading.specs.Outcome.{outcome, ending, zeros}
-use Rattle.reading.specs.Held.{Held, Came}
+use Rattle.reading.specs.Held.{in_use, Held, Came}
 use Rattle.reading.proofs.Holding.{same_store, same_nodes, same-letters, same-links}
 
 -- a reading that was stopped takes no more lines
@@ -23,17 +22,12 @@ pub pass-stopped : (f : Graph → List ℕ → Progress) (q : Progress) (ps : Li
 pass-stopped f q [] t = refl
 pass-stopped f q (p ∷ ps) t = rw t (pass-stopped f q ps t)
 
-module _ {l : Store} {q : Progress} {m : Store} {r : Result Counts Refusal} (s : Came l q m r) where
+module _ {A : Type 0} {l : Store} {q : Progress} {m : Store} {r : Result A Refusal} {c : Counts} (s : Came l q m r c) where
   pub stopped_so : {e : Refusal} → r ≡ Err e → goes_on q ≡ false
   stopped_so {e} n = ap (λ (k : ℕ). eqb k 0) (refused_is s.number n) ∙ number_not_0 e
 
-  pub goes_so : {c : Counts} → r ≡ Ok c → going q.graph ≡ q
+  pub goes_so : {a : A} → r ≡ Ok a → going q.graph ≡ q
   goes_so n = ap (λ (k : ℕ). stopped k q.graph) (sym (passed_is s.number n))
-
-  -- what is held, and counted
-  pub held_so : {c : Counts} → r ≡ Ok c → Held l q.graph m c
-  held_so n =
-      record { room = s.held.room; used = IfOk-at_ok (λ k. k ≡ counts_of q.graph) n s.used; arrays = s.held.arrays }
 
 -- the arrays hold a graph from which the lines that are left lead to `end`
 pub record Turn (l : Store) (f : Graph → List ℕ → Progress) (lines : List (List ℕ)) (end : Progress) (m : Store) (c : Counts) : Type 0 where
@@ -42,27 +36,34 @@ pub record Turn (l : Store) (f : Graph → List ℕ → Progress) (lines : List 
   pub left : pass f (going graph) lines ≡ end
 
 -- a turn: the line is refused, it is the last, or others follow
-module _ {l : Store} {f : Graph → List ℕ → Progress} {ps rest : List (List ℕ)} {p : List ℕ} {end : Progress} {m m' : Store} {c : Counts} {r : Result Counts Refusal} (t : Turn l f ps end m c) (e : ps ≡ p ∷ rest) (s : Came l (f t.graph p) m' r) where
+module _ {l : Store} {f : Graph → List ℕ → Progress} {ps rest : List (List ℕ)} {p : List ℕ} {end : Progress} {m m' : Store} {c : Counts} {r : Result Counts Refusal} (t : Turn l f ps end m c) (e : ps ≡ p ∷ rest) (s : Came l (f t.graph p) m' r (in_use c r)) where
   this : pass f (f t.graph p) rest ≡ end
   this = sym (ap (pass f (going t.graph)) e) ∙ t.left
 
-  pub line_refused : {w : Refusal} → r ≡ Err w → Came l end m' r
-  line_refused n = subst (λ (q : Progress). Came l q m' r) (sym (pass-stopped f (f t.graph p) rest (stopped_so s n)) ∙ this) s
+  held_by : {x : Result Counts Refusal} → r ≡ x → Held l (f t.graph p).graph m' (in_use c x)
+  held_by n = subst (λ (x : Result Counts Refusal). Held l (f t.graph p).graph m' (in_use c x)) n s.held
 
-  pub line-last : rest ≡ [] → Came l end m' r
-  line-last z = subst (λ (q : Progress). Came l q m' r) (sym (ap (pass f (f t.graph p)) z) ∙ this) s
+  pub line_refused : {w : Refusal} → r ≡ Err w → Came {A = ⊤} l end m' (Err w) c
+  line_refused {w} n =
+      subst (λ (q : Progress). Came {A = ⊤} l q m' (Err w) c) (sym (pass-stopped f (f t.graph p) rest (stopped_so s n)) ∙ this)
+      (record { number = sym (refused_is s.number n); held = held_by n })
+
+  pub line-last : {k : Counts} → r ≡ Ok k → rest ≡ [] → Came {A = ⊤} l end m' (Ok tt) k
+  line-last {k} n z =
+      subst (λ (q : Progress). Came {A = ⊤} l q m' (Ok tt) k) (sym (ap (pass f (f t.graph p)) z) ∙ this)
+      (record { number = sym (passed_is s.number n); held = held_by n })
 
   pub line-passed : {k : Counts} → r ≡ Ok k → Turn l f rest end m' k
   line-passed n =
-      record { graph = (f t.graph p).graph; held = held_so s n; left = ap (λ (q : Progress). pass f q rest) (goes_so s n) ∙ this }
+      record { graph = (f t.graph p).graph; held = held_by n; left = ap (λ (q : Progress). pass f q rest) (goes_so s n) ∙ this }
 
 -- one pass after the other: the first is refused, or the second goes on from what it came to
-module _ {l : Store} {q : Progress} {m : Store} {r : Result Counts Refusal} (f : Graph → List ℕ → Progress) (ps : List (List ℕ)) (s : Came l q m r) where
-  pub one-refused : {w : Refusal} → r ≡ Err w → Came l (pass f q ps) m r
-  one-refused n = subst (λ (p : Progress). Came l p m r) (sym (pass-stopped f q ps (stopped_so s n))) s
+module _ {A : Type 0} {l : Store} {q : Progress} {m : Store} {r : Result A Refusal} {c : Counts} (f : Graph → List ℕ → Progress) (ps : List (List ℕ)) (s : Came l q m r c) where
+  pub one-refused : {w : Refusal} → r ≡ Err w → Came l (pass f q ps) m r c
+  one-refused n = subst (λ (p : Progress). Came l p m r c) (sym (pass-stopped f q ps (stopped_so s n))) s
 
-  pub then-two : {c : Counts} → r ≡ Ok c → {m' : Store} {r' : Result Counts Refusal} → Came l (pass f (going q.graph) ps) m' r' → Came l (pass f q ps) m' r'
-  then-two n {m'} {r'} t = subst (λ (p : Progress). Came l (pass f p ps) m' r') (goes_so s n) t
+  pub then-two : {a : A} → r ≡ Ok a → {m' : Store} {r' : Result A Refusal} {c' : Counts} → Came l (pass f (going q.graph) ps) m' r' c' → Came l (pass f q ps) m' r' c'
+  then-two n {m'} {r'} {c'} t = subst (λ (p : Progress). Came l (pass f p ps) m' r' c') (goes_so s n) t
 
 zeros-same : (a b : List ℕ) → length a ≡ length b → zeros a ≡ zeros b
 zeros-same [] [] e = refl
@@ -71,9 +72,9 @@ zeros-same (x ∷ a) [] e = absurd (omega arith)
 zeros-same (x ∷ a) (y ∷ b) e = ap (λ (k : List ℕ). 0 ∷ k) (zeros-same a b (omega arith))
 
 -- the outcome
-module _ {l : Store} {q : Progress} {m : Store} {r : Result Counts Refusal} (s : Came l q m r) where
-  pub read_good : {c : Counts} → r ≡ Ok c → outcome (record { number = 0; counts = c }) m ≡ ending q l
-  read_good n = rw (passed_is s.number n, ← (held_so s n).used, ← s.held.arrays)
+module _ {A : Type 0} {l : Store} {q : Progress} {m : Store} {r : Result A Refusal} {c : Counts} (s : Came l q m r c) where
+  pub read_good : {a : A} → r ≡ Ok a → outcome (record { number = 0; counts = c }) m ≡ ending q l
+  read_good n = rw (passed_is s.number n, ← s.held.used, ← s.held.arrays)
 
   pub read-refused : {e : Refusal} → r ≡ Err e → {a b k : List ℕ} → a ≡ zeros m.nodes → b ≡ zeros m.letters → k ≡ zeros m.links → outcome (record { number = number e; counts = counts_of empty }) (store a b k) ≡ ending q l
   read-refused n {a} {b} {k} x y z =

@@ -5,7 +5,7 @@ ghost use Rattle.store.specs.Graph.{nodes_of, links_of};
 ghost use Rattle.store.specs.Views.{stored, linked};
 ghost use Rattle.formed.specs.WellFormed.{room_for};
 ghost use Rattle.reading.specs.Reading.{add_segment, add_link};
-ghost use Rattle.reading.specs.Held.{counts, OnSegments, OnLinks};
+ghost use Rattle.reading.specs.Held.{counts, in_use, OnSegments, OnLinks};
 
 use handle::{Edge, Handle};
 use kit::Refusal;
@@ -34,7 +34,7 @@ fn append_segment(
     requires nodes_value { stored id (nodes_of c.nodes nodes.old) ≡ false }
     ensures ok { IfOk result (λ n. (4 * n.nodes ≤ length nodes.new) × (n.letters ≤ length letters.new)) }
     ensures err { OnErr result ((nodes.new ≡ nodes.old) × (letters.new ≡ letters.old)) }
-    ensures on_segments { OnSegments (λ l g. add_segment l g id s.now) nodes.old letters.old c nodes.new letters.new result }
+    ensures on_segments { OnSegments (λ l g. add_segment l g id s.now) nodes.old letters.old c nodes.new letters.new result (in_use c result) }
 {
     if !segment_fits(nodes, letters, c, s.len()) {
         return Err(Refusal::Room);
@@ -61,7 +61,7 @@ pub fn add_segment(
     requires { (4 * c.nodes ≤ length nodes.old) × (c.letters ≤ length letters.old) }
     ensures ok { IfOk result (λ n. (4 * n.nodes ≤ length nodes.new) × (n.letters ≤ length letters.new)) }
     ensures err { OnErr result ((nodes.new ≡ nodes.old) × (letters.new ≡ letters.old)) }
-    ensures on_segments { OnSegments (λ l g. add_segment l g id s.now) nodes.old letters.old c nodes.new letters.new result }
+    ensures on_segments { OnSegments (λ l g. add_segment l g id s.now) nodes.old letters.old c nodes.new letters.new result (in_use c result) }
 {
     if store::find_node(nodes, c.nodes, id).is_some() {
         return Err(Refusal::Twice);
@@ -82,7 +82,7 @@ fn append_link(links: &mut [u64], c: Counts, u: Handle, v: Handle) -> Result<Cou
     requires links_value { linked (edge u v) (links_of c.links links.old) ≡ false }
     ensures ok { IfOk result (λ n. (n.nodes ≡ c.nodes) × (3 * n.links ≤ length links.new)) }
     ensures err { OnErr result (links.new ≡ links.old) }
-    ensures by_index { (nodes : List ℕ) → OnLinks (λ l g. add_link l g (edge u v)) nodes links.old c links.new result }
+    ensures by_index { (nodes : List ℕ) → OnLinks (λ l g. add_link l g (edge u v)) nodes links.old c links.new result (in_use c result) }
 {
     let count = c.links;
     if !link_fits(links, count) {
@@ -102,7 +102,7 @@ pub fn add_link(links: &mut [u64], c: Counts, u: Handle, v: Handle) -> Result<Co
     requires { 3 * c.links ≤ length links.old }
     ensures ok { IfOk result (λ n. (n.nodes ≡ c.nodes) × (3 * n.links ≤ length links.new)) }
     ensures err { OnErr result (links.new ≡ links.old) }
-    ensures by_index { (nodes : List ℕ) → OnLinks (λ l g. add_link l g (edge u v)) nodes links.old c links.new result }
+    ensures by_index { (nodes : List ℕ) → OnLinks (λ l g. add_link l g (edge u v)) nodes links.old c links.new result (in_use c result) }
 {
     if store::find_link(links, c.links, u, v).is_some() {
         return Ok(c);

@@ -38,18 +38,24 @@ fn both_passes(
     nodes: &mut [u64],
     letters: &mut [u8],
     links: &mut [u64],
-) -> Result<Counts, Refusal>
-    ensures { Came (store nodes.old letters.old links.old) (read_text (store nodes.old letters.old links.old) text.now) (store nodes.new letters.new links.new) result }
+    used: &mut Counts,
+) -> Result<(), Refusal>
+    ensures { Came (store nodes.old letters.old links.old) (read_text (store nodes.old letters.old links.old) text.now) (store nodes.new letters.new links.new) result used.new }
 {
-    let c = pass_one(text, nodes, letters, NONE)?;
-    pass_two(text, nodes, links, c)
+    *used = NONE;
+    pass_one(text, nodes, letters, used)?;
+    pass_two(text, nodes, links, used)
 }
 
 pub fn read_text(text: &[u8], nodes: &mut [u64], letters: &mut [u8], links: &mut [u64]) -> Read
     ensures { outcome result (store nodes.new letters.new links.new) ≡ read_outcome (store nodes.old letters.old links.old) text.now }
 {
-    match both_passes(text, nodes, letters, links) {
-        Ok(counts) => Read { number: 0, counts },
+    let mut used = NONE;
+    match both_passes(text, nodes, letters, links, &mut used) {
+        Ok(()) => Read {
+            number: 0,
+            counts: used,
+        },
         Err(refusal) => {
             clear_all(nodes, letters, links);
             Read {

@@ -2,7 +2,7 @@
 ghost use Rattle.std.specs.Prelude.{◌*◌, ◌≤◌, ◌≡◌, length, IfOk, OnErr};
 ghost use Rattle.text.specs.Pieces.{lines_of};
 ghost use Rattle.reading.specs.Reading.{going, pass, pass_one_line};
-ghost use Rattle.reading.specs.Held.{OnSegments};
+ghost use Rattle.reading.specs.Held.{in_use, OnSegments};
 
 use crate::add::add_segment;
 use fields::check_line;
@@ -21,7 +21,7 @@ fn pass_one_line(
     requires { (4 * c.nodes ≤ length nodes.old) × (c.letters ≤ length letters.old) }
     ensures ok { IfOk result (λ n. (4 * n.nodes ≤ length nodes.new) × (n.letters ≤ length letters.new)) }
     ensures err { OnErr result ((nodes.new ≡ nodes.old) × (letters.new ≡ letters.old)) }
-    ensures on_segments { OnSegments (λ l g. pass_one_line l g line.now) nodes.old letters.old c nodes.new letters.new result }
+    ensures on_segments { OnSegments (λ l g. pass_one_line l g line.now) nodes.old letters.old c nodes.new letters.new result (in_use c result) }
 {
     check_line(line)?;
     if !is_line(line, b'S') {
@@ -31,22 +31,22 @@ fn pass_one_line(
     add_segment(nodes, letters, c, id, field(line, 2))
 }
 
+// `used` counts what is in use, also after a refusal.
 pub fn pass_one(
     text: &[u8],
     nodes: &mut [u64],
     letters: &mut [u8],
-    c: Counts,
-) -> Result<Counts, Refusal>
-    requires { (4 * c.nodes ≤ length nodes.old) × (c.letters ≤ length letters.old) }
-    ensures { OnSegments (λ l g. pass (pass_one_line l) (going g) (lines_of text.now)) nodes.old letters.old c nodes.new letters.new result }
+    used: &mut Counts,
+) -> Result<(), Refusal>
+    requires { (4 * used.old.nodes ≤ length nodes.old) × (used.old.letters ≤ length letters.old) }
+    ensures { OnSegments (λ l g. pass (pass_one_line l) (going g) (lines_of text.now)) nodes.old letters.old used.old nodes.new letters.new result used.new }
 {
-    let mut used = c;
     let mut at: usize = 0;
     loop {
         let end = next_line(text, at);
-        used = pass_one_line(nodes, letters, used, &text[at..end])?;
+        *used = pass_one_line(nodes, letters, *used, &text[at..end])?;
         if end == text.len() {
-            return Ok(used);
+            return Ok(());
         }
         at = end + 1;
     }

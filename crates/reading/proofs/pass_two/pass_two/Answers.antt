@@ -12,15 +12,14 @@ returns-in_err-used c =
     let p = err_from_is_err_and c.from_residual.result c.from_residual.ensures.1 in
     λ letters l g h.
     let t = c.loop-used.invariant.turn letters l g h in
-    rw (p.1, p.2, ← c.in_err-used.was)
+    rw (p.1, p.2)
     (line_refused t c.next_line-end.ensures.cut (c.pass_two_line.ensures.on_links letters l t.graph t.held) c.in_err-used.was)
 
 pub returns-then-end-text : goal.returns-then-end-text
 returns-then-end-text c =
     λ letters l g h.
     let t = c.loop-used.invariant.turn letters l g h in
-    rw (← c.in_ok-used.was)
-    (line-last t (piece_last c.next_line-end.ensures c.if-end-text.true) (c.pass_two_line.ensures.on_links letters l t.graph t.held) refl)
+    line-last t (piece_last c.next_line-end.ensures c.if-end-text.true) (c.pass_two_line.ensures.on_links letters l t.graph t.held) c.in_ok-used.was refl
 
 pub loop-used-preserved : goal.loop-used-preserved
 loop-used-preserved c =
