@@ -86,9 +86,8 @@ fn next_side(
 {
     let mut best: u64 = 0;
     for i in (0..c.links).rev() {
-        let l = Link::at(links, i);
-        let found = lead_side(left, v, l, above, best);
-        if found != best && store::live_link(nodes, c.nodes, l) {
+        let found = lead_side(left, v, Link::unmarked_at(links, i), above, best);
+        if found != best && store::live_link(nodes, c.nodes, Link::at(links, i)) {
             best = found;
         }
     }
@@ -212,9 +211,8 @@ pub fn left_in(nodes: &[u64], links: &[u64], c: Counts, u: Handle, v: Handle) ->
     ensures { result ≡ left_in (bare nodes.now links.now c) u v }
 {
     for i in 0..c.links {
-        let l = Link::at(links, i);
-        if !shared(nodes, links, c, u, v, l) {
-            if store::live_link(nodes, c.nodes, l) {
+        if !shared(nodes, links, c, u, v, Link::unmarked_at(links, i)) {
+            if store::live_link(nodes, c.nodes, Link::at(links, i)) {
                 return false;
             }
         }

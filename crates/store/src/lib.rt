@@ -79,6 +79,23 @@ impl Link {
         }
     }
 
+    // The same with its ends alone: a search by the ends asks for the mark of what it has found, and of no other link.
+    pub fn unmarked_at(links: &[u64], i: usize) -> Self
+        requires { 3 * i + 3 ≤ length links.now }
+        ensures { result ≡ link (ends (link_at links.now i)) 0 }
+    {
+        let first = 3 * i;
+        Self {
+            from: Handle {
+                packed: links[first],
+            },
+            to: Handle {
+                packed: links[first + 1],
+            },
+            mark: 0,
+        }
+    }
+
     pub fn put(self, links: &mut [u64], i: usize)
         requires { 3 * i + 3 ≤ length links.old }
         ensures { links.new ≡ sets links.old (3 * i) (pack_link self) }
@@ -220,8 +237,9 @@ pub fn live_linked(nodes: &[u64], links: &[u64], c: Counts, u: Handle, v: Handle
 {
     let e = Edge { from: u, to: v };
     for i in 0..c.links {
-        let l = Link::at(links, i);
-        if e.same_link(l.ends()) && live_link(nodes, c.nodes, l) {
+        if e.same_link(Link::unmarked_at(links, i).ends())
+            && live_link(nodes, c.nodes, Link::at(links, i))
+        {
             return true;
         }
     }

@@ -48,14 +48,14 @@ pub returns-then-live_link : goal.returns-then-live_link
 returns-then-live_link c =
     let a = c.args in
     let g = bare a.nodes.now a.links.now a.c in
-    sym (fail (λ w. live_linked g (edge w a.v)) a.u g.nodes a.c.links a.links.now c.loop-i.i (omega arith) (ap (live_link g.nodes) (sym c.at-l.ensures) ∙ sym c.live_link.ensures ∙ c.if-live_link.true) (ap (λ (r : Link). all (λ w. live_linked g (edge w a.v)) (left_ends a.u r)) (sym c.at-l.ensures) ∙ sym c.shared.ensures ∙ not-true _ c.if-not-shared.true-raw)) ∙ c.loop-i.invariant
+    sym (fail (λ w. live_linked g (edge w a.v)) a.u g.nodes a.c.links a.links.now c.loop-i.i (omega arith) (ap (live_link g.nodes) (sym c.at.ensures) ∙ sym c.live_link.ensures ∙ c.if-live_link.true) (ap (λ (r : Link). all (λ w. live_linked g (edge w a.v)) (left_ends a.u r)) (sym c.unmarked_at.ensures) ∙ sym c.shared.ensures ∙ not-true _ c.if-not-shared.true-raw)) ∙ c.loop-i.invariant
 
 pub loop-i-preserved : goal.loop-i-preserved
 loop-i-preserved c =
     let a = c.args in
     let g = bare a.nodes.now a.links.now a.c in elim c.if-not-shared.branch [
-      | then-not-shared+else-live_link w ↦ sym (dead (λ w. live_linked g (edge w a.v)) a.u g.nodes a.c.links a.links.now c.loop-i.i (omega arith) (ap (live_link g.nodes) (sym c.at-l.ensures) ∙ sym w.live_link.ensures ∙ w.if-live_link.false))
-      | else-not-shared w ↦ sym (pass (λ w. live_linked g (edge w a.v)) a.u g.nodes a.c.links a.links.now c.loop-i.i (omega arith) (ap (λ (r : Link). all (λ w. live_linked g (edge w a.v)) (left_ends a.u r)) (sym c.at-l.ensures) ∙ sym c.shared.ensures ∙ not-false _ w.if-not-shared.false-raw))
+      | then-not-shared+else-live_link w ↦ sym (dead (λ w. live_linked g (edge w a.v)) a.u g.nodes a.c.links a.links.now c.loop-i.i (omega arith) (ap (live_link g.nodes) (sym w.at.ensures) ∙ sym w.live_link.ensures ∙ w.if-live_link.false))
+      | else-not-shared w ↦ sym (pass (λ w. live_linked g (edge w a.v)) a.u g.nodes a.c.links a.links.now c.loop-i.i (omega arith) (ap (λ (r : Link). all (λ w. live_linked g (edge w a.v)) (left_ends a.u r)) (sym c.unmarked_at.ensures) ∙ sym c.shared.ensures ∙ not-false _ w.if-not-shared.false-raw))
     ]
     ∙ c.loop-i.invariant
 

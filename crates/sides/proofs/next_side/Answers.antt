@@ -18,13 +18,13 @@ loop-i-init c =
 pub loop-i-preserved-then-live_link : goal.loop-i-preserved-then-live_link
 loop-i-preserved-then-live_link c =
     let a = c.args in
-    c.lead_side-found.ensures ∙ ap (λ (r : Link). lowest a.above c.loop-i.best (side_ends a.left a.v r)) c.at-l.ensures ∙ turn-live a.left a.v a.above (nodes_of a.c.nodes a.nodes.now) a.c.links a.links.now c.loop-i.i c.loop-i.best (omega arith) (omega arith) c.loop-i.invariant (ap (live_link (nodes_of a.c.nodes a.nodes.now)) (sym c.at-l.ensures) ∙ sym c.live_link.ensures ∙ c.if-live_link.true)
+    c.lead_side-found.ensures ∙ ap (λ (r : Link). lowest a.above c.loop-i.best (side_ends a.left a.v r)) c.unmarked_at.ensures ∙ turn-live a.left a.v a.above (nodes_of a.c.nodes a.nodes.now) a.c.links a.links.now c.loop-i.i c.loop-i.best (omega arith) (omega arith) c.loop-i.invariant (ap (live_link (nodes_of a.c.nodes a.nodes.now)) (sym c.at.ensures) ∙ sym c.live_link.ensures ∙ c.if-live_link.true)
 
 pub loop-i-preserved : goal.loop-i-preserved
 loop-i-preserved c =
     let a = c.args in (elim c.else-found-best.branch [
-      | else-found-best-via-then-found-best+else-live_link w ↦ turn_dead a.left a.v a.above (nodes_of a.c.nodes a.nodes.now) a.c.links a.links.now c.loop-i.i c.loop-i.best (omega arith) (omega arith) c.loop-i.invariant (ap (live_link (nodes_of a.c.nodes a.nodes.now)) (sym c.at-l.ensures) ∙ sym w.live_link.ensures ∙ w.if-live_link.false)
-      | else-found-best-via-else-found-best w ↦ turn-same a.left a.v a.above (nodes_of a.c.nodes a.nodes.now) a.c.links a.links.now c.loop-i.i c.loop-i.best (omega arith) (omega arith) c.loop-i.invariant (ap (λ (r : Link). lowest a.above c.loop-i.best (side_ends a.left a.v r)) (sym c.at-l.ensures) ∙ sym c.lead_side-found.ensures ∙ w.if-found-best.false)
+      | else-found-best-via-then-found-best+else-live_link w ↦ turn_dead a.left a.v a.above (nodes_of a.c.nodes a.nodes.now) a.c.links a.links.now c.loop-i.i c.loop-i.best (omega arith) (omega arith) c.loop-i.invariant (ap (live_link (nodes_of a.c.nodes a.nodes.now)) (sym w.at.ensures) ∙ sym w.live_link.ensures ∙ w.if-live_link.false)
+      | else-found-best-via-else-found-best w ↦ turn-same a.left a.v a.above (nodes_of a.c.nodes a.nodes.now) a.c.links a.links.now c.loop-i.i c.loop-i.best (omega arith) (omega arith) c.loop-i.invariant (ap (λ (r : Link). lowest a.above c.loop-i.best (side_ends a.left a.v r)) (sym c.unmarked_at.ensures) ∙ sym c.lead_side-found.ensures ∙ w.if-found-best.false)
     ])
 
 pub returns : goal.returns
