@@ -27,11 +27,14 @@ pub fn members_live(nodes: &[u64], count: usize, members: &[u64]) -> bool
 fn member_again(members: &[u64], start: usize, id: u64) -> bool
     ensures { result ≡ any (λ v. eqb id (id_of v)) (drop start (handles_of members.now)) }
 {
-    members
-        .iter()
-        .map(|m| Handle { packed: *m })
-        .skip(start)
-        .any(|h| id == h.id())
+    // By index: `skip` would walk to `start` from the first member.
+    for i in start..members.len() {
+        let h = Handle { packed: members[i] };
+        if id == h.id() {
+            return true;
+        }
+    }
+    false
 }
 
 pub fn members_once(members: &[u64]) -> bool

@@ -7,9 +7,9 @@ ghost use Rattle.cases.specs.Stream.{line_ends};
 use crate::stream;
 use crate::stream::Source;
 
-const SPACE: Option<u8> = Some(b' ');
+pub const SPACE: Option<u8> = Some(b' ');
 
-const TIMES: Option<u8> = Some(b'*');
+pub const TIMES: Option<u8> = Some(b'*');
 
 // n with the digit d after it, where that fits 64 bits.
 fn grow(n: u64, d: u64) -> Option<u64>

@@ -13,6 +13,8 @@ pub struct Source {
     pub last: Option<u8>,
 }
 
+pub const NEWLINE: u8 = b'\n';
+
 // Standard input from where it stands, until buf is full, the input ends or a read fails; how many bytes stand at its front.
 pub fn read_full(rt: &impl Input, buf: &mut [u8]) -> usize
     ensures { IsPrefixLen result buf.new }
@@ -70,7 +72,7 @@ pub fn line_ends(last: Option<u8>) -> bool
     ensures { result ≡ line_ends last }
 {
     match last {
-        Some(b) => b == b'\n',
+        Some(b) => b == NEWLINE,
         None => true,
     }
 }
