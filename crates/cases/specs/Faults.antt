@@ -1,5 +1,5 @@
 -- What is wrong with a case (docs/REPLAY.md, "Answers"): the tests in their order, the first that fails is said.
-use Rattle.std.specs.Prelude.{ℕ, Bool, cond, List, [], ◌∷◌, leb, ltb, length, drop, Option, Some, None}
+use Rattle.std.specs.Prelude.{ℕ, Bool, cond, List, [], ◌∷◌, eqb, leb, ltb, length, drop, Option, Some, None}
 use Rattle.kit.specs.Loops.{any}
 use Rattle.cases.specs.declared.parts.Kind.{Kind}
 use Rattle.cases.specs.declared.parts.Kind.TheVariants.{Number, Array, Text, Bytes, Room, Wide, Small}
@@ -28,6 +28,10 @@ long_fault Small = BadRoom
 
 abbrev pub length_fault : Kind → ℕ → Option Fault
 length_fault kind n = cond (leb n (most_of kind)) None (Some (long_fault kind))
+
+-- by their places; any number past them is the last
+abbrev pub fault_numbered : ℕ → Fault
+fault_numbered n = cond (eqb n 0) BadNumbers (cond (eqb n 1) BadEnd (cond (eqb n 2) BadLetters BadRoom))
 
 abbrev pub above_byte : ℕ → Bool
 above_byte n = ltb 255 n

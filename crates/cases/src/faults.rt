@@ -1,6 +1,6 @@
 // What is wrong with a case, by its shape.
 ghost use Rattle.std.specs.Prelude.{◌≡◌};
-ghost use Rattle.cases.specs.Faults.{most_of, length_fault, byte_fault, sooner_of, item_fault, fault_of};
+ghost use Rattle.cases.specs.Faults.{fault_numbered, most_of, length_fault, byte_fault, sooner_of, item_fault, fault_of};
 
 use crate::parts;
 use crate::parts::Kind;
@@ -12,6 +12,20 @@ pub enum Fault {
     BadEnd,
     BadLetters,
     BadRoom,
+}
+
+// By their places; any number past them is the last.
+impl From<u64> for Fault {
+    ghost from_gives = { λ n fault. fault ≡ fault_numbered n };
+
+    fn from(n: u64) -> Fault {
+        match n {
+            0 => Fault::BadNumbers,
+            1 => Fault::BadEnd,
+            2 => Fault::BadLetters,
+            _ => Fault::BadRoom,
+        }
+    }
 }
 
 // How many elements of an array can be lent.

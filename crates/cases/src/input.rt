@@ -2,14 +2,14 @@
 // source, and answers nothing where what it reads is not to be had.
 ghost use Rattle.std.specs.Prelude.{◌≤◌, ◌<◌, ◌≡◌, true, length, IfSome};
 ghost use Rattle.cases.specs.Input.{grown, same_word};
-ghost use Rattle.cases.specs.Stream.{line_ends};
+ghost use Rattle.cases.specs.Stream.{line_ends, StaysByte};
 
 use crate::stream;
 use crate::stream::Source;
 
-pub const SPACE: Option<u8> = Some(b' ');
+pub const SPACE: u64 = 32;
 
-pub const TIMES: Option<u8> = Some(b'*');
+pub const TIMES: u64 = 42;
 
 // n with the digit d after it, where that fits 64 bits.
 fn grow(n: u64, d: u64) -> Option<u64>
@@ -22,34 +22,40 @@ fn grow(n: u64, d: u64) -> Option<u64>
 }
 
 // What may stand after a number.
-fn stops(last: Option<u8>) -> bool {
-    last == SPACE || last == TIMES || stream::line_ends(last)
+fn stops(last: Option<u64>) -> bool {
+    last == Some(SPACE) || last == Some(TIMES) || stream::line_ends(last)
 }
 
 // A run of digits and the byte after it.
-fn digits(rt: &impl Input, buf: &mut [u8], s: &mut Source) -> Option<u64> {
+fn digits(rt: &impl Input, buf: &mut [u8], s: &mut Source) -> Option<u64>
+    ensures { StaysByte s.old s.new }
+{
     let mut value: u64 = 0;
     for seen in 0..21_usize {
         *s = stream::advance(rt, buf, *s);
         if stops(s.last) {
             return (0 < seen).then_some(value);
         }
-        value = grow(value, u64::from(s.last?.checked_sub(b'0')?))?;
+        value = grow(value, s.last?.checked_sub(u64::from(b'0'))?)?;
     }
     None
 }
 
 // The next number of the line; none where the line has ended.
-fn number(rt: &impl Input, buf: &mut [u8], s: &mut Source) -> Option<u64> {
-    if s.last == SPACE {
+fn number(rt: &impl Input, buf: &mut [u8], s: &mut Source) -> Option<u64>
+    ensures { StaysByte s.old s.new }
+{
+    if s.last == Some(SPACE) {
         return digits(rt, buf, s);
     }
     None
 }
 
 // How often the number stands: what follows its `*`, else once.
-fn times(rt: &impl Input, buf: &mut [u8], s: &mut Source) -> Option<u64> {
-    if s.last == TIMES {
+fn times(rt: &impl Input, buf: &mut [u8], s: &mut Source) -> Option<u64>
+    ensures { StaysByte s.old s.new }
+{
+    if s.last == Some(TIMES) {
         return digits(rt, buf, s);
     }
     Some(1)
@@ -57,7 +63,8 @@ fn times(rt: &impl Input, buf: &mut [u8], s: &mut Source) -> Option<u64> {
 
 // One number, put at the front of the room as often as it stands; how often that is.
 fn element(rt: &impl Input, buf: &mut [u8], s: &mut Source, room: &mut [u64]) -> Option<usize>
-    ensures { IfSome result (λ n. (0 < n) × (n ≤ length room.new)) }
+    ensures size { IfSome result (λ n. (0 < n) × (n ≤ length room.new)) }
+    ensures byte { StaysByte s.old s.new }
 {
     let value = number(rt, buf, s)?;
     let n = times(rt, buf, s)?;
@@ -70,7 +77,8 @@ fn element(rt: &impl Input, buf: &mut [u8], s: &mut Source, room: &mut [u64]) ->
 
 // All numbers of the line; how many.
 pub fn numbers(rt: &impl Input, buf: &mut [u8], s: &mut Source, out: &mut [u64]) -> Option<usize>
-    ensures { IfSome result (λ n. (n ≤ length out.new) × (line_ends s.new.last ≡ true)) }
+    ensures size { IfSome result (λ n. (n ≤ length out.new) × (line_ends s.new.last ≡ true)) }
+    ensures byte { StaysByte s.old s.new }
 {
     let mut at: usize = 0;
     // The place moves by what an element takes, so it is no count.
@@ -85,14 +93,15 @@ pub fn numbers(rt: &impl Input, buf: &mut [u8], s: &mut Source, out: &mut [u64])
 
 // A word up to the next space or the line's end, and its length; too long a word is none.
 pub fn word(rt: &impl Input, buf: &mut [u8], s: &mut Source, out: &mut [u8]) -> Option<usize>
-    ensures { IfSome result (λ n. n ≤ length out.new) }
+    ensures size { IfSome result (λ n. n ≤ length out.new) }
+    ensures byte { StaysByte s.old s.new }
 {
     for i in 0..out.len() {
         let last = s.last;
-        if last == SPACE || stream::line_ends(last) {
+        if last == Some(SPACE) || stream::line_ends(last) {
             return Some(i);
         }
-        out[i] = last?;
+        out[i] = u8::try_from(last?).ok()?;
         *s = stream::advance(rt, buf, *s);
     }
     None

@@ -194,11 +194,11 @@ pub fn put_text(rt: &impl Print, out: &mut [u8], at: usize, text: &[u8]) -> usiz
     to
 }
 
-pub fn put_fault(rt: &impl Print, out: &mut [u8], at: usize, fault: Fault) -> usize
+pub fn put_fault(rt: &impl Print, out: &mut [u8], at: usize, fault: impl Into<Fault>) -> usize
     requires { Room at out.old }
     ensures { Room result out.new }
 {
-    match fault {
+    match fault.into() {
         Fault::BadNumbers => put_text(rt, out, at, b"bad numbers\n"),
         Fault::BadEnd => put_text(rt, out, at, b"bad end\n"),
         Fault::BadLetters => put_text(rt, out, at, b"bad letters\n"),

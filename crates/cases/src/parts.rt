@@ -1,6 +1,7 @@
 // The items of a case: a number, or an array, which is its length and then its elements. A shape has one byte for each
 // item (docs/REPLAY.md, "Shapes").
 ghost use Rattle.std.specs.Prelude.{◌≤◌, ◌≡◌, length, take, drop};
+ghost use Rattle.cases.specs.declared.parts.Kind.{Kind};
 ghost use Rattle.cases.specs.Parts.{kind_of, item_end, rest_of, elements_of, array_at, number_at, counts_at, used_at};
 
 use events::Used;
@@ -36,13 +37,14 @@ impl From<u8> for Kind {
 }
 
 // Where the item at a place ends; nothing where it runs past the numbers.
-pub fn item_end(numbers: &[u64], at: usize, kind: Kind) -> Option<usize>
-    ensures { result ≡ item_end kind at (drop at numbers.now) }
+pub fn item_end<K: Into<Kind>>(numbers: &[u64], at: usize, kind: K) -> Option<usize>
+    ensures { (this : Kind) × K.converts kind this × (result ≡ item_end this at (drop at numbers.now)) }
 {
+    let this = kind.into();
     if numbers.len() <= at {
         return None;
     }
-    match kind {
+    match this {
         Kind::Number => Some(at + 1),
         _ if ((numbers.len() - at - 1) as u64) < numbers[at] => None,
         _ => Some(at + (1 + numbers[at]) as usize),
@@ -73,7 +75,7 @@ fn place(numbers: &[u64], shape: &[u8], k: usize) -> usize
         if shape.len() <= i {
             return at;
         }
-        let Some(end) = item_end(numbers, at, Kind::from(shape[i])) else {
+        let Some(end) = item_end(numbers, at, shape[i]) else {
             return numbers.len();
         };
         at = end;

@@ -5,15 +5,16 @@ ghost use Rattle.cases.specs.Stream.{Standing, Advanced, Skipped, line_ends};
 
 use std::io::Read;
 
-// The unread part of the buffer, and the byte read last; none past the end of the input.
+// The unread part of the buffer, and the byte read last; none past the end of the input. A caller may put any number there:
+// only 10 and none end a line.
 #[derive(Clone, Copy)]
 pub struct Source {
     pub at: usize,
     pub end: usize,
-    pub last: Option<u8>,
+    pub last: Option<u64>,
 }
 
-pub const NEWLINE: u8 = b'\n';
+pub const NEWLINE: u64 = 10;
 
 // Standard input from where it stands, until buf is full, the input ends or a read fails; how many bytes stand at its front.
 pub fn read_full(rt: &impl Input, buf: &mut [u8]) -> usize
@@ -49,7 +50,7 @@ fn refill(rt: &impl Input, buf: &mut [u8]) -> Source
     Source {
         at: 1,
         end: got,
-        last: Some(buf[0]),
+        last: Some(buf[0] as u64),
     }
 }
 
@@ -64,11 +65,11 @@ pub fn advance(rt: &impl Input, buf: &mut [u8], s: Source) -> Source
     Source {
         at: at + 1,
         end: s.end,
-        last: Some(buf[at]),
+        last: Some(buf[at] as u64),
     }
 }
 
-pub fn line_ends(last: Option<u8>) -> bool
+pub fn line_ends(last: Option<u64>) -> bool
     ensures { result ≡ line_ends last }
 {
     match last {

@@ -1,5 +1,7 @@
 // Operations that change a graph and its event list.
+ghost use Rattle.std.specs.Prelude.{◌≡◌, cond, eqb};
 ghost use Rattle.cases.specs.Answers.{Room};
+ghost use Rattle.graph_runs.specs.declared.changing.Operation.TheVariants.{Collapse, CollapseAll};
 
 use cases::{faults, lend, output, parts};
 use collapsing::Collapsed;
@@ -11,6 +13,18 @@ use store::Counts;
 pub enum Operation {
     Collapse,
     CollapseAll,
+}
+
+// 0 is one collapse, any other number the driver.
+impl From<u64> for Operation {
+    ghost from_gives = { λ n o. o ≡ cond (eqb n 0) Collapse CollapseAll };
+
+    fn from(n: u64) -> Operation {
+        match n {
+            0 => Operation::Collapse,
+            _ => Operation::CollapseAll,
+        }
+    }
 }
 
 // The graph after the call, whose letters nothing changes, and the list.
@@ -140,7 +154,7 @@ fn collapse_all(
 
 pub fn run(
     rt: &impl Print,
-    operation: Operation,
+    operation: impl Into<Operation>,
     given: &[u64],
     shape: &[u8],
     text: &mut [u8],
@@ -150,6 +164,7 @@ pub fn run(
     requires { Room at out.old }
     ensures { Room result out.new }
 {
+    let operation = operation.into();
     if let Some(fault) = faults::first_fault(given, shape) {
         return output::put_fault(rt, out, at, fault);
     }

@@ -1,5 +1,7 @@
 // Operations on a graph that is only read, with room for bytes or none.
+ghost use Rattle.std.specs.Prelude.{◌≡◌, cond, eqb};
 ghost use Rattle.cases.specs.Answers.{Room};
+ghost use Rattle.graph_runs.specs.declared.readers.Operation.TheVariants.{LiveLetters, GetSharedPrefix, SpellWalk, CheckTransform};
 
 use cases::{faults, lend, output, parts};
 use scanning::Verdict;
@@ -10,6 +12,20 @@ pub enum Operation {
     GetSharedPrefix,
     SpellWalk,
     CheckTransform,
+}
+
+// By number, in their order; any number past them is the last.
+impl From<u64> for Operation {
+    ghost from_gives = { λ n o. o ≡ cond (eqb n 0) LiveLetters (cond (eqb n 1) GetSharedPrefix (cond (eqb n 2) SpellWalk CheckTransform)) };
+
+    fn from(n: u64) -> Operation {
+        match n {
+            0 => Operation::LiveLetters,
+            1 => Operation::GetSharedPrefix,
+            2 => Operation::SpellWalk,
+            _ => Operation::CheckTransform,
+        }
+    }
 }
 
 fn live_letters(
@@ -125,7 +141,7 @@ fn check_transform(
 // Item 7, where there is one, is the room, or a second graph's letters.
 pub fn run(
     rt: &impl Print,
-    operation: Operation,
+    operation: impl Into<Operation>,
     given: &[u64],
     shape: &[u8],
     text: &mut [u8],
@@ -135,6 +151,7 @@ pub fn run(
     requires { Room at out.old }
     ensures { Room result out.new }
 {
+    let operation = operation.into();
     if let Some(fault) = faults::first_fault(given, shape) {
         return output::put_fault(rt, out, at, fault);
     }

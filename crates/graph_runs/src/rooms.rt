@@ -1,5 +1,7 @@
 // Operations with room for numbers, of which two arrays are lent.
+ghost use Rattle.std.specs.Prelude.{◌≡◌, cond, eqb};
 ghost use Rattle.cases.specs.Answers.{Room};
+ghost use Rattle.graph_runs.specs.declared.rooms.Operation.TheVariants.{TransformWalk, Expand, EnumerateBranch};
 
 use cases::{faults, lend, output, parts};
 use gfaffix::transform_walk::Rewritten;
@@ -9,6 +11,19 @@ pub enum Operation {
     EnumerateBranch,
     TransformWalk,
     Expand,
+}
+
+// By number, in their order; any number past them is the first.
+impl From<u64> for Operation {
+    ghost from_gives = { λ n o. o ≡ cond (eqb n 1) TransformWalk (cond (eqb n 2) Expand EnumerateBranch) };
+
+    fn from(n: u64) -> Operation {
+        match n {
+            1 => Operation::TransformWalk,
+            2 => Operation::Expand,
+            _ => Operation::EnumerateBranch,
+        }
+    }
 }
 
 fn enumerate_branch(
@@ -99,7 +114,7 @@ fn expand(
 
 pub fn run(
     rt: &impl Print,
-    operation: Operation,
+    operation: impl Into<Operation>,
     given: &[u64],
     shape: &[u8],
     text: &mut [u8],
@@ -109,6 +124,7 @@ pub fn run(
     requires { Room at out.old }
     ensures { Room result out.new }
 {
+    let operation = operation.into();
     if let Some(fault) = faults::first_fault(given, shape) {
         return output::put_fault(rt, out, at, fault);
     }

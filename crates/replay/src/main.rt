@@ -208,7 +208,7 @@ fn line(
     if stream::line_ends(s.last) {
         return at;
     }
-    if s.last == Some(b'#') {
+    if s.last == Some(u64::from(b'#')) {
         *s = stream::skip_line(rt, buf, *s);
         return at;
     }

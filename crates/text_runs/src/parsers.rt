@@ -1,5 +1,7 @@
 // Operations that read text: into a store, and the header.
+ghost use Rattle.std.specs.Prelude.{◌≡◌, cond, eqb};
 ghost use Rattle.cases.specs.Answers.{Room};
+ghost use Rattle.text_runs.specs.declared.parsers.Operation.TheVariants.{ReadGfa, ParseHeader};
 
 use cases::{faults, lend, output};
 use reading::Read;
@@ -8,6 +10,18 @@ use reading::Read;
 pub enum Operation {
     ReadGfa,
     ParseHeader,
+}
+
+// 0 is a reading, any other number the header.
+impl From<u64> for Operation {
+    ghost from_gives = { λ n o. o ≡ cond (eqb n 0) ReadGfa ParseHeader };
+
+    fn from(n: u64) -> Operation {
+        match n {
+            0 => Operation::ReadGfa,
+            _ => Operation::ParseHeader,
+        }
+    }
 }
 
 // A reading's numbers and its store after the call; the text is as it was given.
@@ -102,7 +116,7 @@ fn parse_header(
 
 pub fn run(
     rt: &impl Print,
-    operation: Operation,
+    operation: impl Into<Operation>,
     given: &[u64],
     shape: &[u8],
     text: &mut [u8],
@@ -112,6 +126,7 @@ pub fn run(
     requires { Room at out.old }
     ensures { Room result out.new }
 {
+    let operation = operation.into();
     if let Some(fault) = faults::first_fault(given, shape) {
         return output::put_fault(rt, out, at, fault);
     }

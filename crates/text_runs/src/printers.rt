@@ -1,5 +1,7 @@
 // Operations that write text.
+ghost use Rattle.std.specs.Prelude.{◌≡◌, cond, eqb};
 ghost use Rattle.cases.specs.Answers.{Room};
+ghost use Rattle.text_runs.specs.declared.printers.Operation.TheVariants.{PrintActiveSubgraph, ParseAndTransformPaths, PrintTransformations};
 
 use cases::{faults, lend, output, parts};
 use writing::Written;
@@ -9,6 +11,19 @@ pub enum Operation {
     PrintActiveSubgraph,
     PrintTransformations,
     ParseAndTransformPaths,
+}
+
+// By number, in their order; any number past them is the second.
+impl From<u64> for Operation {
+    ghost from_gives = { λ n o. o ≡ cond (eqb n 0) PrintActiveSubgraph (cond (eqb n 2) ParseAndTransformPaths PrintTransformations) };
+
+    fn from(n: u64) -> Operation {
+        match n {
+            0 => Operation::PrintActiveSubgraph,
+            2 => Operation::ParseAndTransformPaths,
+            _ => Operation::PrintTransformations,
+        }
+    }
 }
 
 // The room is the last item, k; the arrays before it are as they were given.
@@ -96,7 +111,7 @@ fn with_paths(
 
 pub fn run(
     rt: &impl Print,
-    operation: Operation,
+    operation: impl Into<Operation>,
     given: &[u64],
     shape: &[u8],
     text: &mut [u8],
@@ -106,6 +121,7 @@ pub fn run(
     requires { Room at out.old }
     ensures { Room result out.new }
 {
+    let operation = operation.into();
     if let Some(fault) = faults::first_fault(given, shape) {
         return output::put_fault(rt, out, at, fault);
     }

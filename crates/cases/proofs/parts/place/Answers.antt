@@ -1,7 +1,4 @@
-use mathlib.Core.Path.{refl, sym, ap, ◌∙◌}
-use lib.ListN.{drop}
-use Rattle.cases.specs.declared.parts.Kind.{Kind}
-use Rattle.cases.specs.Parts.{item_end}
+use mathlib.Core.Path.{refl, sym, ◌∙◌}
 use native.Mathlib.Omega.{arith}
 use Rattle.cases.proofs.Items.{rest_more, rest_past, rest_end, rest_all}
 use Rattle.cases.proofs.parts.place.Goals as goal
@@ -17,12 +14,12 @@ returns-then-shape-i c =
 pub returns-in_default : goal.returns-in_default
 returns-in_default c =
     let a = c.args in
-    rest_past a.numbers.now a.shape.now a.k c.loop-i.i c.loop-i.at (omega arith) (omega arith) (ap (λ (k : Kind). item_end k c.loop-i.at (drop c.loop-i.at a.numbers.now)) (sym c.from.ensures) ∙ sym c.item_end.ensures ∙ c.in_default.is) ∙ c.loop-i.invariant
+    rest_past a.numbers.now a.shape.now a.k c.loop-i.i c.loop-i.at (omega arith) (omega arith) (sym (rw c.item_end.ensures.1 at c.item_end.ensures.2) ∙ c.in_default.is) ∙ c.loop-i.invariant
 
 pub loop-i-preserved : goal.loop-i-preserved
 loop-i-preserved c =
     let a = c.args in
-    rest_more a.numbers.now a.shape.now a.k c.loop-i.i c.loop-i.at _ (omega arith) (omega arith) (ap (λ (k : Kind). item_end k c.loop-i.at (drop c.loop-i.at a.numbers.now)) (sym c.from.ensures) ∙ sym c.item_end.ensures ∙ c.in-Some.is) ∙ c.loop-i.invariant
+    rest_more a.numbers.now a.shape.now a.k c.loop-i.i c.loop-i.at _ (omega arith) (omega arith) (sym (rw c.item_end.ensures.1 at c.item_end.ensures.2) ∙ c.in-Some.is) ∙ c.loop-i.invariant
 
 pub returns : goal.returns
 returns c =
