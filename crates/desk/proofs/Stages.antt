@@ -25,10 +25,9 @@ use Rattle.walking.specs.Expand as expand
 use Rattle.walking.specs.Expand.{expand_outcome}
 use Rattle.checking.specs.CheckTransform.{Lent, lent}
 use Rattle.desk.specs.Page.{page_outcome}
-use Rattle.desk.specs.declared.work.Done.{Done}
 use Rattle.desk.specs.declared.work.Source.{Source}
 use Rattle.desk.specs.declared.work.Source.TheVariants.{Text, Protected, Room}
-use Rattle.desk.specs.Desk.{Told, told, Finished, finished, finish_outcome, refusal, goes_on, judged, no_events, taken_outcome, tell_outcome, expand_outcome_then, drive_then, lay_then, desk_outcome}
+use Rattle.desk.specs.Desk.{Done, Told, told, Finished, finished, finish_outcome, refusal, goes_on, judged, no_events, taken_outcome, tell_outcome, expand_outcome_then, drive_then, lay_then, desk_outcome}
 
 -- a refusal tells of no bytes
 pub refusal-inside : (source : Source) (number : ℕ) (r : Done) (n m : ℕ) → r ≡ refusal source number → (r.page ≤ n) × (r.table ≤ m)

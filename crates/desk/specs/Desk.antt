@@ -1,5 +1,5 @@
 -- A run of the program, over the outcomes of the public operations: read, collapse all, expand, write, check.
-use Rattle.std.specs.Prelude.{ℕ, ◌≡◌, Bool, cond, not, ◌&&◌, ◌||◌, List, eqb, leb, ltb, length, Some, None}
+use Rattle.std.specs.Prelude.{ℕ, ◌≡◌, Bool, cond, not, ◌&&◌, ◌||◌, List, eqb, leb, ltb, length, Option, Some, None}
 use Rattle.std.proofs.Common.{sym, ◌∙◌}
 use Rattle.std.proofs.lemmas.List.Edits.{sets}
 use Rattle.events.specs.declared.Used.{Used}
@@ -16,7 +16,7 @@ use Rattle.checking.specs.CheckTransform.{Lent, lent, check_outcome}
 use Rattle.desk.specs.Page.{page_outcome}
 use Rattle.desk.specs.declared.work.Source.{Source}
 use Rattle.desk.specs.declared.work.Source.TheVariants.{Text, Protected, Room}
-use Rattle.desk.specs.declared.work.Done.{Done}
+use Rattle.desk.specs.declared.work.Done as declared
 
 -- 01 "Nodes, letters, links", the program's limits: a text of more than 65,536 bytes is 7 before anything else. The other
 -- limits are the lengths of the rooms.
@@ -25,6 +25,10 @@ taken_outcome l text =
     cond (ltb 65536 (length text))
     (reading.outcome (record { number = 7; counts = record { nodes = 0; letters = 0; links = 0 } }) l)
     (read_outcome l text)
+
+-- what a run answers
+abbrev pub Done : Type 0
+Done = declared.Done (Option Source)
 
 -- the answer, and the rooms for what is written
 pub record Told : Type 0 where
@@ -121,8 +125,8 @@ desk_outcome text protected check old new rules steps page table =
 pub one-outcome : (text protected : List ℕ) (check : Bool) (old : Store) (new : collapsing.Lent) (rules steps page table : List ℕ) (x y : Told) → x ≡ desk_outcome text protected check old new rules steps page table → y ≡ desk_outcome text protected check old new rules steps page table → x ≡ y
 one-outcome text protected check old new rules steps page table x y e f = e ∙ sym f
 
--- how a run ends: 1 refused, also where the driver was stopped on its way; 3 where the checker found a fault; else 0
-abbrev pub status_of : Done → ℕ
+-- how a run ends, whatever its source is: 1 refused, also where the driver was stopped on its way; 3 where the checker found a fault; else 0
+abbrev pub status_of : {S : Type 0} → declared.Done S → ℕ
 status_of d =
     cond (not (eqb d.number 0)) 1
     (cond (not (eqb d.verdict.number 0)) 3

@@ -22,9 +22,9 @@ pub enum Source {
 // The number and what it is of, where it is not 0; the number that stopped the driver on its way, else 0; how much of the two rooms is to be
 // written; the verdict, where it was asked for.
 #[derive(Clone, Copy)]
-pub struct Done {
+pub struct Done<S = Option<Source>> {
     pub number: u64,
-    pub source: Option<Source>,
+    pub source: S,
     pub stopped: u64,
     pub page: usize,
     pub table: usize,
@@ -313,8 +313,8 @@ pub fn work(
     )
 }
 
-// How a run ends: 1 refused, also where the driver was stopped on its way; 3 where the checker found a fault; else 0.
-pub fn status(done: Done) -> u64
+// How a run ends, whatever it says of the source: 1 refused, also where the driver was stopped on its way; 3 where the checker found a fault; else 0.
+pub fn status<S: Drop>(done: Done<S>) -> u64
     ensures value { result ≡ status_of done }
     ensures upper_bound { result ≤ 3 }
 {

@@ -3,7 +3,7 @@ use Rattle.std.specs.Prelude.{ℕ, ◌+◌, Bool, cond, ◌||◌, List, [], ◌�
 use Rattle.text.specs.Pieces.{pieces}
 use Rattle.cases.specs.Input.{same_word}
 use Rattle.request.specs.declared.ask.Role.{Role}
-use Rattle.request.specs.declared.ask.Role.TheVariants.{Out, Table, Ids, OutName, TableName, IdsName, Graph, Check, Unknown, Empty}
+use Rattle.request.specs.declared.ask.Role.TheVariants.{Out, Table, Ids, OutName, TableName, IdsName, Graph, Check, Unknown, Empty, Other}
 
 -- all but the last
 abbrev pub front : List (List ℕ) → List (List ℕ)
@@ -44,6 +44,21 @@ wanted_after Graph = None
 wanted_after Check = None
 wanted_after Unknown = None
 wanted_after Empty = None
+wanted_after Other = None
+
+-- the roles by number, in their order from 1 on; any other number is no word's
+abbrev pub role_numbered : ℕ → Role
+role_numbered n =
+    cond (eqb n 1) Out
+    (cond (eqb n 2) Table
+    (cond (eqb n 3) Ids
+    (cond (eqb n 4) OutName
+    (cond (eqb n 5) TableName
+    (cond (eqb n 6) IdsName
+    (cond (eqb n 7) Graph
+    (cond (eqb n 8) Check
+    (cond (eqb n 9) Unknown
+    (cond (eqb n 10) Empty Other)))))))))
 
 -- roles told apart by their place among them
 abbrev pub place_of : Role → ℕ
@@ -57,6 +72,7 @@ place_of Graph = 6
 place_of Check = 7
 place_of Unknown = 8
 place_of Empty = 9
+place_of Other = 10
 
 abbrev pub same_role : Role → Role → Bool
 same_role a b = eqb (place_of a) (place_of b)

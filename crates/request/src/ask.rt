@@ -1,12 +1,13 @@
 // The words that the program was started with, each ended by a 0: a graph, and options, three of which take the next word.
 ghost use Rattle.std.specs.Prelude.{◌≡◌, None};
-ghost use Rattle.request.specs.Words.{words_of, kind_of, role_of, wanted_after, same_role, first_word, count_words, is_standard};
+ghost use Rattle.request.specs.Words.{words_of, kind_of, role_numbered, role_of, wanted_after, same_role, first_word, count_words, is_standard};
 ghost use Rattle.request.specs.Faults.{fault_of, given_twice, incomplete, same_file, shared_input};
+ghost use Rattle.request.specs.declared.ask.Role.{Role};
 
 use cases::input::same_word;
 use text::pieces::piece_end;
 
-// What a word is: what one of the three options takes, such an option's name, or neither.
+// What a word is: what one of the three options takes, such an option's name, or neither. Other is what no word is.
 #[derive(Clone, Copy, PartialEq, Eq)]
 pub enum Role {
     Out,
@@ -19,6 +20,28 @@ pub enum Role {
     Check,
     Unknown,
     Empty,
+    Other,
+}
+
+// By number, in their order from 1 on; any other number is no word's.
+impl From<u64> for Role {
+    ghost from_gives = { λ n role. role ≡ role_numbered n };
+
+    fn from(n: u64) -> Role {
+        match n {
+            1 => Role::Out,
+            2 => Role::Table,
+            3 => Role::Ids,
+            4 => Role::OutName,
+            5 => Role::TableName,
+            6 => Role::IdsName,
+            7 => Role::Graph,
+            8 => Role::Check,
+            9 => Role::Unknown,
+            10 => Role::Empty,
+            _ => Role::Other,
+        }
+    }
 }
 
 // What is wrong with the words.
@@ -91,9 +114,10 @@ fn same_role(a: Role, b: Role) -> bool
 }
 
 // The first word that is this; an empty part where there is none.
-pub fn first(words: &[u8], role: Role) -> &[u8]
-    ensures { result.now ≡ first_word role None (words_of words.now) }
+pub fn first<R: Into<Role>>(words: &[u8], role: R) -> &[u8]
+    ensures { (this : Role) × R.converts role this × (result.now ≡ first_word this None (words_of words.now)) }
 {
+    let sought = role.into();
     let mut at: usize = 0;
     let mut wanted = None;
     loop {
@@ -102,7 +126,7 @@ pub fn first(words: &[u8], role: Role) -> &[u8]
             return &words[end..];
         }
         let this = role_of(wanted, &words[at..end]);
-        if same_role(this, role) {
+        if same_role(this, sought) {
             return &words[at..end];
         }
         wanted = wanted_after(this);
@@ -111,9 +135,10 @@ pub fn first(words: &[u8], role: Role) -> &[u8]
 }
 
 // How many words are this.
-pub fn count(words: &[u8], role: Role) -> usize
-    ensures { result ≡ count_words role None (words_of words.now) }
+pub fn count<R: Into<Role>>(words: &[u8], role: R) -> usize
+    ensures { (this : Role) × R.converts role this × (result ≡ count_words this None (words_of words.now)) }
 {
+    let sought = role.into();
     let mut n: usize = 0;
     let mut at: usize = 0;
     let mut wanted = None;
@@ -123,7 +148,7 @@ pub fn count(words: &[u8], role: Role) -> usize
             return n;
         }
         let this = role_of(wanted, &words[at..end]);
-        n += usize::from(same_role(this, role));
+        n += usize::from(same_role(this, sought));
         wanted = wanted_after(this);
         at = end + 1;
     }

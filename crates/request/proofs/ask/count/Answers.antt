@@ -9,8 +9,8 @@ bit : (b : Bool) → bool_byte b ≡ cond b 1 0
 bit true = refl
 bit false = refl
 
-pub loop-role-preserved : goal.loop-role-preserved
-loop-role-preserved c =
+pub loop-sought-preserved : goal.loop-sought-preserved
+loop-sought-preserved g c =
     let a = c.args in
     let more = next_word c.piece_end-end.ensures c.if-end-words.false in
-    (search rules, search rules, count_next a.role c.loop-role.wanted _ c.loop-role.n more c.loop-role.invariant.2 c.role_of-this.ensures _ (c.from-n.ensures ∙ bit _ ∙ ap (λ (b : Bool). cond b 1 0) c.same_role.ensures) _ c.wanted_after-wanted.ensures)
+    (search rules, search rules, count_next c.into-sought.result c.loop-sought.wanted _ c.loop-sought.n more c.loop-sought.invariant.2 c.role_of-this.ensures _ (c.from-n.ensures ∙ bit _ ∙ ap (λ (b : Bool). cond b 1 0) c.same_role.ensures) _ c.wanted_after-wanted.ensures)

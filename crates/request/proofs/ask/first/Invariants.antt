@@ -5,8 +5,8 @@ use Rattle.std.specs.Prelude.{None}
 use Rattle.request.specs.Words.{words_of, first_word}
 use Rattle.request.proofs.ask.first.Given as goal
 
-abbrev pub invariant-loop-role : goal.invariant-loop-role
-invariant-loop-role l = (l.at ≤ length l.words) × (first_word l.role l.wanted (words_of (drop l.at l.words)) ≡ first_word l.role None (words_of l.words))
+abbrev pub invariant-loop-sought : goal.invariant-loop-sought
+invariant-loop-sought g l = (l.at ≤ length l.words) × (first_word l.sought l.wanted (words_of (drop l.at l.words)) ≡ first_word l.sought None (words_of l.words))
 
-abbrev pub decreases-loop-role : goal.decreases-loop-role
-decreases-loop-role l = length l.words - l.at
+abbrev pub decreases-loop-sought : goal.decreases-loop-sought
+decreases-loop-sought g l = length l.words - l.at
