@@ -38,11 +38,11 @@ pub struct Collapsed {
 }
 
 // A refusal gives back the counts.
-pub fn refuse(why: Refusal, c: Counts, u: Used) -> Collapsed
-    ensures { result ≡ record { number = number why; shared = 0; counts = c; used = u } }
+pub fn refuse(number: u64, c: Counts, u: Used) -> Collapsed
+    ensures { result ≡ record { number = number; shared = 0; counts = c; used = u } }
 {
     Collapsed {
-        number: why.number(),
+        number,
         shared: 0,
         counts: c,
         used: u,
@@ -78,7 +78,7 @@ fn collapse_in(
     ensures { outcome result (lent nodes.new links.new rules.new steps.new) ≡ cond (leb (3 * length (planned p (nodes_of c.nodes nodes.old) (map (dim (nodes_of c.nodes nodes.old)) (links_of c.links links.old)) (handles_of members.now))) (length room.old)) (made (beginning p (nodes_of c.nodes nodes.old) (first_of (handles_of members.now))).x (state_by p (nodes_of c.nodes nodes.old) (links_of c.links links.old) (list_of rules.old steps.old u) (planned p (nodes_of c.nodes nodes.old) (map (dim (nodes_of c.nodes nodes.old)) (links_of c.links links.old)) (handles_of members.now)) (handles_of members.now)) c (lent nodes.old links.old rules.old steps.old)) (refused 7 c u (lent nodes.old links.old rules.old steps.old)) }
 {
     let Some(n) = plan::plan(nodes, links, c, members, p, room) else {
-        return refuse(Refusal::Room, c, u);
+        return refuse(Refusal::Room.number(), c, u);
     };
     make::make(nodes, links, c, rules, steps, u, members, p, room, n)
 }
@@ -121,7 +121,7 @@ pub fn collapse_group(
     ensures { outcome result (lent nodes.new links.new rules.new steps.new) ≡ group_outcome (lent nodes.old links.old rules.old steps.old) text.now c u (handles_of members.now) p }
 {
     if let Err(why) = ready::ready_number(nodes, text, links, c, rules, steps, u, members, p) {
-        return refuse(why, c, u);
+        return refuse(why.number(), c, u);
     }
     // No heap: the room is of fixed size.
     let mut room = [0u64; 393216];

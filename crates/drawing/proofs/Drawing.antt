@@ -1,8 +1,10 @@
 -- Steps one by one, and the whole text of a path or a walk.
 use Prim.Native.Nat.{ℕ, ◌+◌, ◌^◌, ◌≤◌, ◌<◌}
 use mathlib.Core.Path.{◌≡◌, refl, sym, ap, ◌∙◌, subst}
+use mathlib.Core.Bool.{Bool, true, false, cond}
 use mathlib.Core.List.{List, [], ◌∷◌, ◌++◌, append-nil, append_assoc}
 use native.Mathlib.Omega.{arith}
+use lib.Dec.{eqb}
 use lib.ListN.{length, drop, get_or, length-append, get_or-map}
 use Rattle.kit.specs.Decimal.{decimal}
 use Rattle.kit.specs.Loops.{lines}
@@ -13,8 +15,6 @@ use Rattle.handle.specs.Handle.{id_of}
 use Rattle.store.specs.Graph.{handle}
 use Rattle.groups.specs.Groups.{numbers}
 use Rattle.writing.specs.Marks.{sign_of, walk_step, path_step, walk_text, path_text}
-use Rattle.drawing.specs.declared.step.Mark.{Mark}
-use Rattle.drawing.specs.declared.step.Mark.TheVariants.{Walk, First, Later}
 use Rattle.drawing.specs.declared.step.Pen.{Pen}
 use Rattle.drawing.specs.Capped.{Capped}
 use Rattle.drawing.specs.Drawn.{step_text, later, steps_text, mark_after, Drawn}
@@ -28,28 +28,31 @@ module _ (h : Handle) (k : h.packed < 2 ^ 64) where
   whole : length (path_step h) ≡ length (decimal (id_of h)) + 1
   whole = length-append (decimal (id_of h)) (sign_of h ∷ [])
 
-  pub step_short : (mark : Mark) → length (step_text mark h) ≤ 22
-  step_short Walk = omega (arith, digits)
-  step_short First = omega (arith, digits, whole)
-  step_short Later = omega (arith, digits, whole)
+  pub step_short : (mark : ℕ) → length (step_text mark h) ≤ 22
+  step_short mark = by (eqb mark 0) (eqb mark 1)
+    where
+      by : (a b : Bool) → length (cond a (walk_step h) (cond b (path_step h) (44 ∷ path_step h))) ≤ 22
+      by true b = omega (arith, digits)
+      by false true = omega (arith, digits, whole)
+      by false false = omega (arith, digits, whole)
 
-steps-append : (mark : Mark) (a b : List Handle) → steps_text mark (a ++ b) ≡ steps_text mark a ++ steps_text (mark_after mark a) b
+steps-append : (mark : ℕ) (a b : List Handle) → steps_text mark (a ++ b) ≡ steps_text mark a ++ steps_text (mark_after mark a) b
 steps-append mark [] b = refl
 steps-append mark (h ∷ a) b =
     ap (λ (l : List ℕ). step_text mark h ++ l) (steps-append (later mark) a b)
     ∙ sym (append_assoc (step_text mark h) (steps_text (later mark) a) (steps_text (mark_after (later mark) a) b))
 
-pub walk_text_lem : (hs : List Handle) → steps_text Walk hs ≡ walk_text hs
+pub walk_text_lem : (hs : List Handle) → steps_text 0 hs ≡ walk_text hs
 unfolding walk_text
 walk_text_lem [] = refl
 walk_text_lem (h ∷ hs) = ap (λ (l : List ℕ). walk_step h ++ l) (walk_text_lem hs)
 
-later-text : (k : Handle) (hs : List Handle) → steps_text Later (k ∷ hs) ≡ 44 ∷ path_text (k ∷ hs)
+later-text : (k : Handle) (hs : List Handle) → steps_text 2 (k ∷ hs) ≡ 44 ∷ path_text (k ∷ hs)
 unfolding path_text
 later-text k [] = ap (λ (l : List ℕ). 44 ∷ l) (append-nil (path_step k))
 later-text k (h ∷ hs) = ap (λ (l : List ℕ). 44 ∷ (path_step k ++ l)) (later-text h hs)
 
-pub path_text_lem : (hs : List Handle) → steps_text First hs ≡ path_text hs
+pub path_text_lem : (hs : List Handle) → steps_text 1 hs ≡ path_text hs
 unfolding path_text
 path_text_lem [] = refl
 path_text_lem (h ∷ []) = append-nil (path_step h)
@@ -69,7 +72,7 @@ pub record Drawing (stop : ℕ) (l : List ℕ) (p : Pen) (all : List Handle) (m 
   pub text : Capping stop l p.place (steps_text p.mark all) m q.place (steps_text q.mark rest)
   pub ends : mark_after q.mark rest ≡ mark_after p.mark all
 
-mark_append : (mark : Mark) (a b : List Handle) → mark_after mark (a ++ b) ≡ mark_after (mark_after mark a) b
+mark_append : (mark : ℕ) (a b : List Handle) → mark_after mark (a ++ b) ≡ mark_after (mark_after mark a) b
 mark_append mark [] b = refl
 mark_append mark (h ∷ a) b = mark_append (later mark) a b
 
@@ -78,8 +81,8 @@ module _ {stop : ℕ} {l : List ℕ} {p : Pen} {all : List Handle} {m : List ℕ
   pub drawing-next : {a rest more : List Handle} {k : List ℕ} {r : Pen} → Drawing stop l p all m q more → more ≡ a ++ rest → Drawn stop m q a k r → length k ≡ length m → Drawing stop l p all k r rest
   drawing-next {a} {rest} {more} {k} {r} d e w s =
       record {
-        text = capping_next d.text (ap (steps_text q.mark) e ∙ steps-append q.mark a rest ∙ ap (λ (n : Mark). steps_text q.mark a ++ steps_text n rest) (sym w.next)) w.written s;
-        ends = ap (λ (n : Mark). mark_after n rest) w.next ∙ sym (mark_append q.mark a rest) ∙ sym (ap (mark_after q.mark) e) ∙ d.ends;
+        text = capping_next d.text (ap (steps_text q.mark) e ∙ steps-append q.mark a rest ∙ ap (λ (n : ℕ). steps_text q.mark a ++ steps_text n rest) (sym w.next)) w.written s;
+        ends = ap (λ (n : ℕ). mark_after n rest) w.next ∙ sym (mark_append q.mark a rest) ∙ sym (ap (mark_after q.mark) e) ∙ d.ends;
       }
 
   pub drawing-all : {rest : List Handle} → Drawing stop l p all m q rest → rest ≡ [] → Drawn stop l p all m q
@@ -94,7 +97,7 @@ module _ (f : Handle → List Handle) {stop : ℕ} {l : List ℕ} {at : ℕ} {al
   pub walk_next : Capping stop l at all k r.place (steps_text r.mark (lines f tail))
   walk_next =
       let x : Drawn stop m q (f g) k r = drawn_is (ap f v) w in
-      capping_next d (ap (λ (y : List Handle). steps_text q.mark (lines f y)) e ∙ steps-append q.mark (f g) (lines f tail) ∙ ap (λ (n : Mark). steps_text q.mark (f g) ++ steps_text n (lines f tail)) (sym x.next)) x.written s
+      capping_next d (ap (λ (y : List Handle). steps_text q.mark (lines f y)) e ∙ steps-append q.mark (f g) (lines f tail) ∙ ap (λ (n : ℕ). steps_text q.mark (f g) ++ steps_text n (lines f tail)) (sym x.next)) x.written s
 
   pub walk_end : tail ≡ [] → Capped stop l at all k r.place
   walk_end z = capping_all walk_next (ap (λ (y : List Handle). steps_text r.mark (lines f y)) z)

@@ -1,34 +1,28 @@
 -- Steps as they are written one by one, before it is known whether another follows: a path's comma goes with the step after it.
-use Rattle.std.specs.Prelude.{ℕ, zero, suc, ◌+◌, ◌≡◌, List, [], ◌∷◌, ◌++◌}
+use Rattle.std.specs.Prelude.{ℕ, zero, suc, ◌+◌, ◌≡◌, cond, List, [], ◌∷◌, ◌++◌, eqb}
 use Rattle.handle.specs.declared.Handle.{Handle}
 use Rattle.text.specs.Pieces.{field}
 use Rattle.writing.specs.Marks.{walk_step, path_step}
-use Rattle.drawing.specs.declared.step.Mark.{Mark}
-use Rattle.drawing.specs.declared.step.Mark.TheVariants.{Walk, First, Later}
 use Rattle.drawing.specs.declared.step.Pen.{Pen}
 use Rattle.drawing.specs.Capped.{Capped}
 
--- by its mark
-abbrev pub step_text : Mark → Handle → List ℕ
-step_text Walk h = walk_step h
-step_text First h = path_step h
-step_text Later h = 44 ∷ path_step h
+-- by its mark: 0 a walk's step, 1 a path's first step, any other a path's later step
+abbrev pub step_text : ℕ → Handle → List ℕ
+step_text mark h = cond (eqb mark 0) (walk_step h) (cond (eqb mark 1) (path_step h) (44 ∷ path_step h))
 
 -- the mark of the step after it
-abbrev pub later : Mark → Mark
-later Walk = Walk
-later First = Later
-later Later = Later
+abbrev pub later : ℕ → ℕ
+later mark = cond (eqb mark 0) 0 2
 
-abbrev pub steps_text : Mark → List Handle → List ℕ
+abbrev pub steps_text : ℕ → List Handle → List ℕ
 steps_text mark [] = []
 steps_text mark (h ∷ hs) = step_text mark h ++ steps_text (later mark) hs
 
-abbrev pub mark_after : Mark → List Handle → Mark
+abbrev pub mark_after : ℕ → List Handle → ℕ
 mark_after mark [] = mark
 mark_after mark (h ∷ hs) = mark_after (later mark) hs
 
-abbrev pub pen : ℕ → Mark → Pen
+abbrev pub pen : ℕ → ℕ → Pen
 pen place mark = record { place = place; mark = mark }
 
 -- q is where the pen p is after it wrote these steps

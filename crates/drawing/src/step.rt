@@ -9,27 +9,29 @@ use crate::cap::cap;
 use handle::Handle;
 use writing::{marks, put};
 
-// How a step is written: a walk's, a path's first one, a path's later one.
-#[derive(Clone, Copy, PartialEq, Eq)]
-pub enum Mark {
-    Walk,
-    First,
-    Later,
-}
-
-// Where the next step goes, and how it is written.
+// Where the next step goes, and how it is written. The mark is a number: one that is handed in comes back as it was where
+// no step is written.
 #[derive(Clone, Copy)]
 pub struct Pen {
     pub place: usize,
-    pub mark: Mark,
+    pub mark: u64,
 }
 
-fn later(mark: Mark) -> Mark
+impl Pen {
+    // A walk's step, a path's first one, a path's later one, as any other number.
+    pub const WALK: u64 = 0;
+
+    pub const FIRST: u64 = 1;
+
+    pub const LATER: u64 = 2;
+}
+
+fn later(mark: u64) -> u64
     ensures { result ≡ later mark }
 {
     match mark {
-        Mark::Walk => Mark::Walk,
-        Mark::First | Mark::Later => Mark::Later,
+        Pen::WALK => Pen::WALK,
+        _ => Pen::LATER,
     }
 }
 
@@ -41,14 +43,14 @@ fn fill_path_step(out: &mut [u8], at: usize, h: Handle) -> usize
     put::fill_byte(out, end, marks::sign_of(h))
 }
 
-fn fill_step(out: &mut [u8], at: usize, mark: Mark, h: Handle) -> usize
+fn fill_step(out: &mut [u8], at: usize, mark: u64, h: Handle) -> usize
     requires { at + length (step_text mark h) < 2 ^ 64 }
     ensures { Filled out.old at (step_text mark h) out.new result }
 {
     match mark {
-        Mark::Walk => marks::fill_step(out, at, h),
-        Mark::First => fill_path_step(out, at, h),
-        Mark::Later => {
+        Pen::WALK => marks::fill_step(out, at, h),
+        Pen::FIRST => fill_path_step(out, at, h),
+        _ => {
             let end = put::fill_byte(out, at, b',');
             fill_path_step(out, end, h)
         }

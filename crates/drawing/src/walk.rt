@@ -9,7 +9,7 @@ ghost use Rattle.writing.specs.Marks.{path_text, walk_text};
 ghost use Rattle.drawing.specs.Capped.{Open, Capped};
 
 use crate::image::add_node;
-use crate::step::{Mark, Pen};
+use crate::step::Pen;
 use events::Used;
 use store::Counts;
 use text::pieces::piece_end;
@@ -32,7 +32,7 @@ pub fn add_path(
 {
     let mut pen = Pen {
         place: at,
-        mark: Mark::First,
+        mark: Pen::FIRST,
     };
     let mut from: usize = 0;
     loop {
@@ -66,7 +66,7 @@ pub fn add_walk(
 {
     let mut pen = Pen {
         place: at,
-        mark: Mark::Walk,
+        mark: Pen::WALK,
     };
     let mut from: usize = 0;
     // The place moves by what a step takes, so it is no count.

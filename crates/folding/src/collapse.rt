@@ -23,7 +23,7 @@ pub fn collapse(
     ensures { outcome result (lent nodes.new links.new rules.new steps.new) ≡ collapse_outcome (lent nodes.old links.old rules.old steps.old) text.now c u members.now p }
 {
     if let Err(why) = collapsing::number::state_number(nodes, text, links, c, rules, steps, u) {
-        return collapsing::refuse(why, c, u);
+        return collapsing::refuse(why.number(), c, u);
     }
     collapsing::collapse_group(nodes, text, links, c, rules, steps, u, members, p)
 }

@@ -19,7 +19,7 @@ returns-in-Err c =
     let some : ready_number (room_of l) a.p s ms ≡ 0 → ⊥ =
     λ z. let none = eq-eqb (number c.in-Err.why) 0 (sym e ∙ z) in let not_none = number_not_0 c.in-Err.why in cc
     in
-    rw (c.refuse.ensures, number-early (room_of l) a.p s ms some, e, number_not_0 c.in-Err.why)
+    rw (c.refuse.ensures, c.number.ensures, number-early (room_of l) a.p s ms some, e, number_not_0 c.in-Err.why)
 
 pub collapse_ready-requires-clause-c_value : goal.collapse_ready-requires-clause-c_value
 collapse_ready-requires-clause-c_value c = (c.requires.c_value.0, c.requires.c_value.1, search rules)

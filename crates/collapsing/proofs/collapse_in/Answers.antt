@@ -17,7 +17,7 @@ use Rattle.collapsing.proofs.Planning.{planned-count, planned_full, planned-more
 use Rattle.collapsing.proofs.collapse_in.Goals as goal
 
 pub returns-in_default : goal.returns-in_default
-returns-in_default c = rw (c.refuse.ensures, planned_full c.plan.ensures c.in_default.is)
+returns-in_default c = rw (c.refuse.ensures, c.number.ensures, planned_full c.plan.ensures c.in_default.is)
 
 pub make-requires : goal.make-requires
 make-requires c =
