@@ -9,8 +9,8 @@ use crate::cap::cap;
 use handle::Handle;
 use writing::{marks, put};
 
-// Where the next step goes, and how it is written. The mark is a number: one that is handed in comes back as it was where
-// no step is written.
+// Where the next step goes, and how it is written. The mark is a number and no enum: any may be handed in, and comes back
+// where there is no step.
 #[derive(Clone, Copy)]
 pub struct Pen {
     pub place: usize,
@@ -18,7 +18,7 @@ pub struct Pen {
 }
 
 impl Pen {
-    // A walk's step, a path's first one, a path's later one, as any other number.
+    // A walk's step, a path's first one, a path's later one; any other number is a later one's too.
     pub const WALK: u64 = 0;
 
     pub const FIRST: u64 = 1;
