@@ -7,11 +7,11 @@ abbrev pub line_ends : Option ℕ → Bool
 line_ends None = true
 line_ends (Some b) = eqb b 10
 
--- what is read is a byte
+-- a byte, or the end of the input
 abbrev pub is_byte : Option ℕ → Type 0
 is_byte last = IfSome last (λ b. b < 256)
 
--- so is what was read last, where it was one before
+-- what was read last is one after where it was one before
 abbrev pub StaysByte : Source → Source → Type 0
 StaysByte s r = is_byte s.last → is_byte r.last
 

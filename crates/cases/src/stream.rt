@@ -5,8 +5,8 @@ ghost use Rattle.cases.specs.Stream.{Standing, Advanced, Skipped, line_ends};
 
 use std::io::Read;
 
-// The unread part of the buffer, and the byte read last; none past the end of the input. A caller may put any number there:
-// only 10 and none end a line.
+// The unread part of the buffer, and the byte read last; none past the end of the input. A caller may put any number
+// there: only 10 and none end a line.
 #[derive(Clone, Copy)]
 pub struct Source {
     pub at: usize,

@@ -125,7 +125,8 @@ desk_outcome text protected check old new rules steps page table =
 pub one-outcome : (text protected : List ℕ) (check : Bool) (old : Store) (new : collapsing.Lent) (rules steps page table : List ℕ) (x y : Told) → x ≡ desk_outcome text protected check old new rules steps page table → y ≡ desk_outcome text protected check old new rules steps page table → x ≡ y
 one-outcome text protected check old new rules steps page table x y e f = e ∙ sym f
 
--- how a run ends, whatever its source is: 1 refused, also where the driver was stopped on its way; 3 where the checker found a fault; else 0
+-- how a run ends, whatever its source is: 1 refused, also where the driver was stopped on its way; 3 where the checker
+-- found a fault; else 0
 abbrev pub status_of : {S : Type 0} → declared.Done S → ℕ
 status_of d =
     cond (not (eqb d.number 0)) 1

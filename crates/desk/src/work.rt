@@ -313,7 +313,8 @@ pub fn work(
     )
 }
 
-// How a run ends, whatever it says of the source: 1 refused, also where the driver was stopped on its way; 3 where the checker found a fault; else 0.
+// How a run ends, whatever its source is: 1 refused, also where the driver was stopped on its way; 3 where the checker
+// found a fault; else 0.
 pub fn status<S: Drop>(done: Done<S>) -> u64
     ensures value { result ≡ status_of done }
     ensures upper_bound { result ≤ 3 }

@@ -9,8 +9,8 @@ use crate::cap::cap;
 use handle::Handle;
 use writing::{marks, put};
 
-// Where the next step goes, and how it is written. The mark is a number and no enum: any may be handed in, and comes back
-// where there is no step.
+// Where the next step goes, and how it is written. The mark is a number and no enum: any may be handed in, and comes
+// back where there is no step.
 #[derive(Clone, Copy)]
 pub struct Pen {
     pub place: usize,
