@@ -17,7 +17,7 @@ use Rattle.text.specs.Pieces.{field, is_line}
 use Rattle.text.specs.Names.{name_id}
 use Rattle.text.specs.Fields.{line_number, edge_of, handles_said}
 use Rattle.reading.specs.Reading.{Store, Progress, add_segment, add_link, pass_one_line, pass_two_line}
-use Rattle.reading.specs.Held.{in_use, Held, Came}
+use Rattle.reading.specs.Held.{Held, Came}
 use Rattle.reading.proofs.Holding.{nodes_held, stops, goes}
 
 module _ {l : Store} {g : Graph} {m : Store} {c : Counts} (h : Held l g m c) (line : List ℕ) where
@@ -31,10 +31,10 @@ module _ {l : Store} {g : Graph} {m : Store} {c : Counts} (h : Held l g m c) (li
     unfolding pass_one_line
     one-other k t = rw (passed_is e k, t) (goes h)
 
-    pub one_segment : {v : A} → a ≡ Ok v → is_line 83 line ≡ true → {id : ℕ} {s : List ℕ} {m' : Store} {r : Result Counts Refusal} → id ≡ name_id (field 1 line) → s ≡ field 2 line → Came l (add_segment l g id s) m' r (in_use c r) → Came l (pass_one_line l g line) m' r (in_use c r)
+    pub one_segment : {v : A} → a ≡ Ok v → is_line 83 line ≡ true → {id : ℕ} {s : List ℕ} {m' : Store} {r : Result Counts Refusal} {d : Counts} → id ≡ name_id (field 1 line) → s ≡ field 2 line → Came l (add_segment l g id s) m' r d → Came l (pass_one_line l g line) m' r d
     unfolding pass_one_line
-    one_segment k t {id} {s} {m'} {r} i j x =
-        rw (passed_is e k, t) (subst (λ (p : Progress). Came l p m' r (in_use c r)) (ap₂ (add_segment l g) i j) x)
+    one_segment k t {id} {s} {m'} {r} {d} i j x =
+        rw (passed_is e k, t) (subst (λ (p : Progress). Came l p m' r d) (ap₂ (add_segment l g) i j) x)
 
   -- pass two, where b says whether all that the line names is stored
   module _ {b : Bool} (e : b ≡ all_stored (nodes_of c.nodes m.nodes) (handles_said line)) where
@@ -49,7 +49,7 @@ module _ {l : Store} {g : Graph} {m : Store} {c : Counts} (h : Held l g m c) (li
     unfolding pass_two_line
     two-other k t = rw (sym said ∙ k, t) (goes h)
 
-    pub two-link : b ≡ true → is_line 76 line ≡ true → {d : Edge} {m' : Store} {r : Result Counts Refusal} → d ≡ edge_of line → Came l (add_link l g d) m' r (in_use c r) → Came l (pass_two_line l g line) m' r (in_use c r)
+    pub two-link : b ≡ true → is_line 76 line ≡ true → {d : Edge} {m' : Store} {r : Result Counts Refusal} {k : Counts} → d ≡ edge_of line → Came l (add_link l g d) m' r k → Came l (pass_two_line l g line) m' r k
     unfolding pass_two_line
-    two-link k t {d} {m'} {r} i a =
-        rw (sym said ∙ k, t) (subst (λ (x : Edge). Came l (add_link l g x) m' r (in_use c r)) i a)
+    two-link s t {d} {m'} {r} {k} i a =
+        rw (sym said ∙ s, t) (subst (λ (x : Edge). Came l (add_link l g x) m' r k) i a)

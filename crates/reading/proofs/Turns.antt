@@ -29,6 +29,14 @@ module _ {A : Type 0} {l : Store} {q : Progress} {m : Store} {r : Result A Refus
   pub goes_so : {a : A} → r ≡ Ok a → going q.graph ≡ q
   goes_so n = ap (λ (k : ℕ). stopped k q.graph) (sym (passed_is s.number n))
 
+-- where the answer has the counts in it, what is held is counted by what it answers
+module _ {l : Store} {q : Progress} {m : Store} {r : Result Counts Refusal} (c : Counts) (s : Came l q m r (in_use c r)) where
+  pub held_by : {x : Result Counts Refusal} → r ≡ x → Held l q.graph m (in_use c x)
+  held_by n = subst (λ (x : Result Counts Refusal). Held l q.graph m (in_use c x)) n s.held
+
+  pub held_so : {k : Counts} → r ≡ Ok k → Held l q.graph m k
+  held_so n = held_by n
+
 -- the arrays hold a graph from which the lines that are left lead to `end`
 pub record Turn (l : Store) (f : Graph → List ℕ → Progress) (lines : List (List ℕ)) (end : Progress) (m : Store) (c : Counts) : Type 0 where
   pub graph : Graph
@@ -36,26 +44,35 @@ pub record Turn (l : Store) (f : Graph → List ℕ → Progress) (lines : List 
   pub left : pass f (going graph) lines ≡ end
 
 -- a turn: the line is refused, it is the last, or others follow
-module _ {l : Store} {f : Graph → List ℕ → Progress} {ps rest : List (List ℕ)} {p : List ℕ} {end : Progress} {m m' : Store} {c : Counts} {r : Result Counts Refusal} (t : Turn l f ps end m c) (e : ps ≡ p ∷ rest) (s : Came l (f t.graph p) m' r (in_use c r)) where
+module _ {A : Type 0} {l : Store} {f : Graph → List ℕ → Progress} {ps rest : List (List ℕ)} {p : List ℕ} {end : Progress} {m m' : Store} {c d : Counts} {r : Result A Refusal} (t : Turn l f ps end m c) (e : ps ≡ p ∷ rest) (s : Came l (f t.graph p) m' r d) where
   this : pass f (f t.graph p) rest ≡ end
   this = sym (ap (pass f (going t.graph)) e) ∙ t.left
 
-  held_by : {x : Result Counts Refusal} → r ≡ x → Held l (f t.graph p).graph m' (in_use c x)
-  held_by n = subst (λ (x : Result Counts Refusal). Held l (f t.graph p).graph m' (in_use c x)) n s.held
+  pub line_refused : {w : Refusal} → r ≡ Err w → Came l end m' r d
+  line_refused n = subst (λ (q : Progress). Came l q m' r d) (sym (pass-stopped f (f t.graph p) rest (stopped_so s n)) ∙ this) s
 
-  pub line_refused : {w : Refusal} → r ≡ Err w → Came {A = ⊤} l end m' (Err w) c
-  line_refused {w} n =
-      subst (λ (q : Progress). Came {A = ⊤} l q m' (Err w) c) (sym (pass-stopped f (f t.graph p) rest (stopped_so s n)) ∙ this)
-      (record { number = sym (refused_is s.number n); held = held_by n })
+  pub line-last : rest ≡ [] → Came l end m' r d
+  line-last z = subst (λ (q : Progress). Came l q m' r d) (sym (ap (pass f (f t.graph p)) z) ∙ this) s
 
-  pub line-last : {k : Counts} → r ≡ Ok k → rest ≡ [] → Came {A = ⊤} l end m' (Ok tt) k
-  line-last {k} n z =
-      subst (λ (q : Progress). Came {A = ⊤} l q m' (Ok tt) k) (sym (ap (pass f (f t.graph p)) z) ∙ this)
-      (record { number = sym (passed_is s.number n); held = held_by n })
-
-  pub line-passed : {k : Counts} → r ≡ Ok k → Turn l f rest end m' k
+  pub line-passed : {a : A} → r ≡ Ok a → Turn l f rest end m' d
   line-passed n =
-      record { graph = (f t.graph p).graph; held = held_by n; left = ap (λ (q : Progress). pass f q rest) (goes_so s n) ∙ this }
+      record { graph = (f t.graph p).graph; held = s.held; left = ap (λ (q : Progress). pass f q rest) (goes_so s n) ∙ this }
+
+-- the same of a line that answers what it counts: a pass answers no counts, they stand beside it
+module _ {l : Store} {f : Graph → List ℕ → Progress} {ps rest : List (List ℕ)} {p : List ℕ} {end : Progress} {m m' : Store} {c : Counts} {r : Result Counts Refusal} (t : Turn l f ps end m c) (e : ps ≡ p ∷ rest) (s : Came l (f t.graph p) m' r (in_use c r)) where
+  pub pass_refused : {w : Refusal} → r ≡ Err w → Came {A = ⊤} l end m' (Err w) c
+  pass_refused n =
+      let x = line_refused t e s n in
+      record { number = sym (refused_is x.number n); held = held_by c x n }
+
+  pub pass-ended : {k : Counts} → r ≡ Ok k → rest ≡ [] → Came {A = ⊤} l end m' (Ok tt) k
+  pass-ended n z =
+      let x = line-last t e s z in
+      record { number = sym (passed_is x.number n); held = held_by c x n }
+
+  pub pass_goes_on : {k : Counts} → r ≡ Ok k → Turn l f rest end m' k
+  unfolding line-passed
+  pass_goes_on n = record { graph = (f t.graph p).graph; held = held_so c s n; left = (line-passed t e s n).left }
 
 -- one pass after the other: the first is refused, or the second goes on from what it came to
 module _ {A : Type 0} {l : Store} {q : Progress} {m : Store} {r : Result A Refusal} {c : Counts} (f : Graph → List ℕ → Progress) (ps : List (List ℕ)) (s : Came l q m r c) where

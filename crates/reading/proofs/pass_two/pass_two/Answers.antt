@@ -4,7 +4,7 @@ use native.Mathlib.Omega.{arith}
 use lib.ListN.{length}
 use Rattle.std.proofs.lemmas.Result.{IfOk-at_ok, err_from_is_err_and}
 use Rattle.text.proofs.Cuts.{piece_last, piece_more}
-use Rattle.reading.proofs.Turns.{line_refused, line-last, line-passed}
+use Rattle.reading.proofs.Turns.{pass_refused, pass-ended, pass_goes_on}
 use Rattle.reading.proofs.pass_two.pass_two.Goals as goal
 
 pub returns-in_err-used : goal.returns-in_err-used
@@ -13,13 +13,13 @@ returns-in_err-used c =
     λ letters l g h.
     let t = c.loop-used.invariant.turn letters l g h in
     rw (p.1, p.2)
-    (line_refused t c.next_line-end.ensures.cut (c.pass_two_line.ensures.on_links letters l t.graph t.held) c.in_err-used.was)
+    (pass_refused t c.next_line-end.ensures.cut (c.pass_two_line.ensures.on_links letters l t.graph t.held) c.in_err-used.was)
 
 pub returns-then-end-text : goal.returns-then-end-text
 returns-then-end-text c =
     λ letters l g h.
     let t = c.loop-used.invariant.turn letters l g h in
-    line-last t (piece_last c.next_line-end.ensures c.if-end-text.true) (c.pass_two_line.ensures.on_links letters l t.graph t.held) c.in_ok-used.was refl
+    pass-ended t (piece_last c.next_line-end.ensures c.if-end-text.true) (c.pass_two_line.ensures.on_links letters l t.graph t.held) c.in_ok-used.was refl
 
 pub loop-used-preserved : goal.loop-used-preserved
 loop-used-preserved c =
@@ -32,5 +32,5 @@ loop-used-preserved c =
       turn =
           λ letters l g h.
           let t = c.loop-used.invariant.turn letters l g h in
-          line-passed t (piece_more c.next_line-end.ensures c.if-end-text.false) (c.pass_two_line.ensures.on_links letters l t.graph t.held) c.in_ok-used.was;
+          pass_goes_on t (piece_more c.next_line-end.ensures c.if-end-text.false) (c.pass_two_line.ensures.on_links letters l t.graph t.held) c.in_ok-used.was;
     }
